@@ -12,9 +12,8 @@ use Rattle.http1.specs.declared.conn.Writing.TheVariants as Writes
 pub pieces_text-append : (pieces : List (List ℕ)) (piece : List ℕ) (e : Encoder)
     → pieces_text (pieces ++ piece ∷ []) e ≡ pieces_text pieces e ++ piece_text (after_pieces pieces e) piece
 pieces_text-append [] piece e = append-nil (piece_text e piece)
-pieces_text-append (first ∷ pieces) piece e =
-    ap (λ (t : List ℕ). piece_text e first ++ t) (pieces_text-append pieces piece (after_piece e (length first)))
-    ∙ sym (append_assoc (piece_text e first) _ _)
+pieces_text-append (first ∷ pieces) piece e = ap (λ (t : List ℕ). piece_text e first ++ t)
+    (pieces_text-append pieces piece (after_piece e (length first))) ∙ sym (append_assoc (piece_text e first) _ _)
 
 pub after_pieces-append : (pieces : List (List ℕ)) (piece : List ℕ) (e : Encoder)
     → after_pieces (pieces ++ piece ∷ []) e ≡ after_piece (after_pieces pieces e) (length piece)
@@ -30,9 +29,8 @@ module _ (head : List ℕ) (pieces : List (List ℕ)) (first : Encoder) (w : Wri
   abbrev pub text_at : List (List ℕ) → Option (List Header) → List ℕ
   text_at all t = head ++ (pieces_text all first ++ last_text (after_pieces all first) t)
 
-  pub put_at : (t : Option (List Header)) (piece : List ℕ) → w ≡ writing_at t (after_pieces pieces first)
-      → data_refusal w (length piece) ≡ None
-      → (after_data w (length piece) ≡ writing_at t (after_pieces (pieces ++ piece ∷ []) first))
+  pub put_at : (t : Option (List Header)) (piece : List ℕ) → w ≡ writing_at t (after_pieces pieces first) → data_refusal
+      w (length piece) ≡ None → (after_data w (length piece) ≡ writing_at t (after_pieces (pieces ++ piece ∷ []) first))
       × (text_at (pieces ++ piece ∷ []) t ≡ text_at pieces t ++ data_text w piece)
   put_at None piece is accepted = rw is (
     rw (after_pieces-append pieces piece first),
@@ -57,13 +55,11 @@ takes_end w trailers none = absurd (cc)
 -- ---- what is read
 
 -- the front of a body goes on
-pub front_goes : {first d next : Decoder} {bytes unread content piece : List ℕ} {len : ℕ}
-    → IsFront first bytes d unread content → Continues d unread next len piece
-    → IsFront first bytes next (drop len unread) (content ++ piece)
+pub front_goes : {first d next : Decoder} {bytes unread content piece : List ℕ} {len : ℕ} → IsFront first bytes
+    d unread content → Continues d unread next len piece → IsFront first bytes next (drop len unread) (content ++ piece)
 front_goes {first} {d} {next} {bytes} {unread} {content} {piece} {len} x continues = record {
   live = Continues-live d next unread len piece continues;
-  back = λ more body rest completes.
-      rw (append_assoc content piece body.bytes)
+  back = λ more body rest completes. rw (append_assoc content piece body.bytes)
       (x.back more (with_front piece body) rest (continues.back more body rest completes));
   forth = λ more whole rest completes.
       let f = x.forth more whole rest completes in

@@ -51,18 +51,16 @@ module _ (c new : Client) (input : List ℕ) (spans : List HeaderSpan) where
 
   tells_head : (len : ℕ) (e : Event Spans) → c.reading ≡ Reads.Head → awaits_head c.writing ≡ false
       → ReadsHead c input spans new len e → Tells len e
-  tells_head len Found.NeedMore is due found =
-      subst (λ (r : Reading). WaitsAt r c input new (drop len input)) (sym is)
-      (found.1, ap (λ (n : ℕ). drop n input) found.0, inr (due, found.2, found.4))
+  tells_head len Found.NeedMore is due found = subst (λ (r : Reading). WaitsAt r c input new (drop len input))
+      (sym is) (found.1, ap (λ (n : ℕ). drop n input) found.0, inr (due, found.2, found.4))
   tells_head len (Found.Head r) is due found = ((is, due), found)
   tells_head len (Found.Informational r) is due found = ((is, due), found)
   tells_head len e is due found = absurd found
 
   tells_body : (d : Decoder) (next : Reading) (len : ℕ) (e : Event Spans) → c.reading ≡ Reads.Body d
       → ReadsPiece d input spans next len e → new ≡ after_piece c next → Tells len e
-  tells_body d next len Found.NeedMore is found goes =
-      subst (λ (r : Reading). WaitsAt r c input new (drop len input)) (sym is)
-      (found.0, len, found.2, refl, goes ∙ ap (after_piece c) found.1)
+  tells_body d next len Found.NeedMore is found goes = subst (λ (r : Reading). WaitsAt r c input new (drop len input))
+      (sym is) (found.0, len, found.2, refl, goes ∙ ap (after_piece c) found.1)
   tells_body d next len (Found.Data s) is found goes = (d, next, is, found, goes)
   tells_body d next len (Found.End count) is found goes = (d, next, is, found, goes)
   tells_body d next len e is found goes = absurd found
@@ -90,18 +88,15 @@ module _ (c new : Client) (input : List ℕ) (spans : List HeaderSpan) where
 
   pub tells : (read : Progress Spans) → ClientReads c input spans new read → (e : Event Spans) → read.event ≡ e
       → Tells read.consumed e
-  tells read found e is =
-      subst (λ (x : Event Spans). Tells read.consumed x) is (tells_at c.reading read refl found)
+  tells read found e is = subst (λ (x : Event Spans). Tells read.consumed x) is (tells_at c.reading read refl found)
 
 -- ---- heads
 
 -- the parts of the head that was taken
 pub takes_response : (old new : OriginConnection) (spans : List HeaderSpan) (len : ℕ) (r : ResponseSpans)
-    (response : OriginResponse)
-    (seen : List ℕ) → seen ≡ old.input.items → IsDue old.client → TakesHead old.client seen spans new.client len r
-    → IsUnder old.input.items spans r response → new.input.items ≡ drop r.len old.input.items
-    → new ≡ record old { client = new.client; input = new.input; silent = false }
-    → TakesResponse old response new
+    (response : OriginResponse) (seen : List ℕ) → seen ≡ old.input.items → IsDue old.client → TakesHead old.client seen
+    spans new.client len r → IsUnder old.input.items spans r response → new.input.items ≡ drop r.len old.input.items
+    → new ≡ record old { client = new.client; input = new.input; silent = false } → TakesResponse old response new
 takes_response old new spans len r response seen same due head u left rest =
     let t : TakesHead old.client old.input.items spans new.client len r =
     subst (λ (s : List ℕ). TakesHead old.client s spans new.client len r) same head in
@@ -162,25 +157,22 @@ module _ (old new : OriginConnection) (spans : List HeaderSpan) (len : ℕ) (r :
       final = interim_of false old.input.items spans r response u head.0
 
       by_switch : (b : Bool) → switches old.client response.status ≡ b → Finds old event new
-      by_switch true is =
-          let goes : after_head old.client t.head t.framing ≡ upgraded_client old.client =
-          rw (ap (switches old.client) status ∙ is) in
+      by_switch true is = let goes : after_head
+          old.client t.head t.framing ≡ upgraded_client old.client = rw (ap (switches old.client) status ∙ is) in
           let empty = sized ∙ ap (λ (k : Client). unread_size k.reading) (t.client ∙ goes) in
           subst (λ (e : Said). Finds old e new) (sym (switched empty)) (final, is, t)
-      by_switch false is =
-          let goes = t.client ∙ final_stays old.client t.head t.framing (ap is_interim status ∙ final)
-          (ap (switches old.client) status ∙ is) in
+      by_switch false is = let goes = t.client ∙ final_stays old.client t.head t.framing
+          (ap is_interim status ∙ final) (ap (switches old.client) status ∙ is) in
           let other : size ≢ Size.Empty = λ empty. body_size old.client.limits t.framing
           (sym (ap (λ (k : Client). unread_size k.reading) goes) ∙ sym sized ∙ empty) in
           subst (λ (e : Said). Finds old e new) (sym (stays other)) (final, is, t)
 
 -- ---- content
 
-pub takes_piece : (old new : OriginConnection) (len : ℕ) (s : Span) (piece seen : List ℕ) (d : Decoder)
-    (next : Reading) → seen ≡ old.input.items → old.client.reading ≡ Reads.Body d
-    → ReadsPiece {H = ResponseSpans} d seen [] next len (Found.Data s)
-    → new.client ≡ after_piece old.client next → piece ≡ span_bytes old.input.items s
-    → new.input.items ≡ drop s.end old.input.items
+pub takes_piece : (old new : OriginConnection) (len : ℕ) (s : Span) (piece seen : List ℕ) (d : Decoder) (next : Reading)
+    → seen ≡ old.input.items → old.client.reading ≡ Reads.Body d
+    → ReadsPiece {H = ResponseSpans} d seen [] next len (Found.Data s) → new.client ≡ after_piece old.client next
+    → piece ≡ span_bytes old.input.items s → new.input.items ≡ drop s.end old.input.items
     → new ≡ record old { client = new.client; input = new.input } → TakesPiece old piece new
 takes_piece old new len s piece seen d next same reading found goes bytes left rest =
     let continues : Continues d old.input.items found.0 s.end piece =
@@ -200,9 +192,8 @@ takes_piece old new len s piece seen d next same reading found goes bytes left r
     }
   where
     spans_some : (xs : List ℕ) (s : Span) → s.start < s.end → s.end ≤ length xs → 0 < length (span_bytes xs s)
-    spans_some xs s some within =
-        let size : length (span_bytes xs s) ≡ s.end - s.start =
-        length-slice_range xs s.start s.end (omega arith) within in omega arith
+    spans_some xs s some within = let size : length
+        (span_bytes xs s) ≡ s.end - s.start = length-slice_range xs s.start s.end (omega arith) within in omega arith
 
 -- ---- faults
 

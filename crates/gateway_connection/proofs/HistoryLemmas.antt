@@ -135,8 +135,7 @@ asked_busy (Some trailers) e idle = absurd (cc)
 -- ---- the input goes on, or ends
 
 grows : {old new : Bool} (bytes : List ℕ) → ((more : List ℕ) → MayFollow new more → MayFollow old (bytes ++ more))
-    → (P : List ℕ → List ℕ → Type 0) (a b : List ℕ)
-    → ((more : List ℕ) → MayFollow old more → P (a ++ more) (b ++ more))
+    → (P : List ℕ → List ℕ → Type 0) (a b : List ℕ) → ((more : List ℕ) → MayFollow old more → P (a ++ more) (b ++ more))
     → (more : List ℕ) → MayFollow new more → P ((a ++ bytes) ++ more) ((b ++ bytes) ++ more)
 grows bytes follows P a b f more may = simp append_assoc (f (bytes ++ more) (follows more may))
 
@@ -196,12 +195,7 @@ bodiless : {limits : Limits} {method : MethodKind} {input rest : List ℕ} {h : 
 bodiless {limits} {method} {input} {rest} {h} {framing} accepts none =
     let framed : Ok NoBody ≡ Ok framing = rw none at accepts.framed in
     let is : NoBody ≡ framing = cc in
-    record {
-      framing = framing;
-      after_head = rest;
-      head = accepts;
-      body = rw (← is) (refl, refl, refl);
-    }
+    record { framing = framing; after_head = rest; head = accepts; body = rw (← is) (refl, refl, refl) }
 
 switching_has_no_body : (c : Client) (method : MethodKind) (status : ℕ)
     → switches (record c { method = method }) status ≡ true → has_no_body method status ≡ true
@@ -224,8 +218,7 @@ interim_low status is = grind (arith, nat_tests)
 
 interim_stays : (c : Client) (h : ResponseHead) (framing : Framing) → is_interim (status_code h) ≡ true
     → after_head c h framing ≡ c
-interim_stays c h framing low =
-    rw (interim_switches c c.method (status_code h) low, interim_low (status_code h) low)
+interim_stays c h framing low = rw (interim_switches c c.method (status_code h) low, interim_low (status_code h) low)
 
 -- ---- steps
 
@@ -235,8 +228,7 @@ module _ (pieces : Request → List (List ℕ)) (trailers : Request → Option (
     abbrev more_of : Request → Request
     more_of r = record r { pieces = pieces r; trailers = trailers r }
 
-    longer : {k : Frame} (r : Request) → Since k (request_bytes r)
-        → request_bytes (more_of r) ≡ request_bytes r ++ text
+    longer : {k : Frame} (r : Request) → Since k (request_bytes r) → request_bytes (more_of r) ≡ request_bytes r ++ text
         → Since (record k { output = k.output ++ text }) (request_bytes (more_of r))
     longer {k} r s more = record {
       written = sym (append_assoc k.sent k.output text) ∙ ap (λ (t : List ℕ). t ++ text) s.written
@@ -246,17 +238,14 @@ module _ (pieces : Request → List (List ℕ)) (trailers : Request → Option (
     }
 
     put_now : {k : Frame} {c : Client} {input : List ℕ} → ((e : Encoder) × (c.writing ≡ Writes.Body e))
-        → ((r : Request) → c.writing ≡ writing_of r
-        → (w ≡ writing_of (more_of r)) × (request_bytes (more_of r) ≡ request_bytes r ++ text))
-        → (now : Now) → Goes k c input now
+        → ((r : Request) → c.writing ≡ writing_of r → (w ≡ writing_of (more_of r))
+        × (request_bytes (more_of r) ≡ request_bytes r ++ text)) → (now : Now) → Goes k c input now
         → Goes (record k { output = k.output ++ text }) (record c { writing = w }) input (change more_of now)
     unfolding longer
     put_now is_open puts Fresh g = absurd (rests_open _ _ _ is_open.1 g.at)
-    put_now is_open puts (Asked r interim) g =
-        let p = puts r g.at.1 in
+    put_now is_open puts (Asked r interim) g = let p = puts r g.at.1 in
         record { since = longer r g.since p.1; limited = g.limited; told = g.told; at = (g.at.0, p.0, g.at.2, g.at.3) }
-    put_now is_open puts (Hears r interim response content) g =
-        let p = puts r g.at.1 in
+    put_now is_open puts (Hears r interim response content) g = let p = puts r g.at.1 in
         record { since = longer r g.since p.1; limited = g.limited; told = g.told; at = (g.at.0, p.0, g.at.2, g.at.3) }
     put_now is_open puts (Over e) g = absurd (rests_open _ _ _ is_open.1 g.at.0)
 
@@ -271,9 +260,8 @@ waits_rest c next input rest w (Reads.Body d) rests found = absurd (rests_body w
 waits_rest c next input rest w r rests found = absurd found
 
 -- after the end the client is idle only if the connection is kept
-cycle_rests : (c : Client) (d : Decoder) (r : Request) (m : Message.Response) (framing : Framing)
-    → Sends c r (Reads.Body d) (keeps_both r m.head framing) → (again : Bool)
-    → (c.keep_alive && is_written c.writing) ≡ again
+cycle_rests : (c : Client) (d : Decoder) (r : Request) (m : Message.Response) (framing : Framing) → Sends c r
+    (Reads.Body d) (keeps_both r m.head framing) → (again : Bool) → (c.keep_alive && is_written c.writing) ≡ again
     → Rests (cond again (new_client c.limits) (closed_client (record c { reading = Reads.Done }))) r m
 cycle_rests c d r m framing sends true is = (
   refl,
@@ -294,9 +282,8 @@ cycle_rests c d r m framing sends false is = (tt, λ idle. absurd (cc))
 
 module _ {k : Frame} {c : Client} {input : List ℕ} where
   -- the next request begins where the last exchange is over
-  begins : (now : Now) → Goes k c input now → c.writing ≡ Writes.Head
-      → ((more : List ℕ) → MayFollow k.ended more
-      → ReadsKept k.limits (k.received ++ more) (k.before ++ is_over now) (input ++ more))
+  begins : (now : Now) → Goes k c input now → c.writing ≡ Writes.Head → ((more : List ℕ)
+      → MayFollow k.ended more → ReadsKept k.limits (k.received ++ more) (k.before ++ is_over now) (input ++ more))
       × (k.sent ++ k.output ≡ texts (k.before ++ is_over now)) × (c.reading ≡ Reads.Head)
   begins Fresh g idle = (
     λ more may. rw (append-nil k.before) (rw g.told at (g.since.kept more may)),
@@ -316,8 +303,7 @@ module _ {k : Frame} {c : Client} {input : List ℕ} where
   hears_now : {next : Client} {rest : List ℕ} (r : Request) (interim : List OriginResponse) (response : OriginResponse)
       (content piece : List ℕ) (after : Decoder) (len : ℕ) (g : Goes k c input (Hears r interim response content))
       → Continues g.told.decoder input after len piece → rest ≡ drop len input
-      → next ≡ record c { reading = Reads.Body after }
-      → Goes k next rest (Hears r interim response (content ++ piece))
+      → next ≡ record c { reading = Reads.Body after } → Goes k next rest (Hears r interim response (content ++ piece))
   hears_now r interim response content piece after len g continues left goes =
       let x = g.told in
       rw (left, goes) (record {
@@ -339,43 +325,35 @@ module _ {k : Frame} {c : Client} {input : List ℕ} where
 
   wait_now : {next : Client} {rest : List ℕ} (now : Now) → Goes k c input now → WaitsAt c.reading c input next rest
       → Goes k next rest now
-  wait_now Fresh g found =
-      let same = waits_rest _ _ _ _ c.writing c.reading g.at found in rw (same.0, same.1) g
+  wait_now Fresh g found = let same = waits_rest _ _ _ _ c.writing c.reading g.at found in rw (same.0, same.1) g
   wait_now (Asked r interim) g found =
       let same = waits_rest _ _ _ _ Writes.Head c.reading g.at.0 found in rw (same.0, same.1) g
   wait_now {next} {rest} (Hears r interim response content) g found =
       let w = waits_body c next rest input c.reading g.told.decoder g.at.0 found in
-      rw (append-nil content) at
-      (hears_now r interim response content [] w.0 w.1 g w.2.continues w.3 w.4)
-  wait_now (Over e) g found =
-      let same = waits_rest _ _ _ _ c.writing c.reading g.at.0 found in rw (same.0, same.1) g
+      rw (append-nil content) at (hears_now r interim response content [] w.0 w.1 g w.2.continues w.3 w.4)
+  wait_now (Over e) g found = let same = waits_rest _ _ _ _ c.writing c.reading g.at.0 found in rw (same.0, same.1) g
 
   -- a response is read
-  heard : (P : Now → Type 0) {d : Decoder} → c.reading ≡ Reads.Body d
-      → ((r : Request) (interim : List OriginResponse) (response : OriginResponse) (content : List ℕ)
-      (g : Goes k c input (Hears r interim response content)) → g.told.decoder ≡ d
-      → P (Hears r interim response content))
-      → (now : Now) → Goes k c input now → P now
+  heard : (P : Now → Type 0) {d : Decoder} → c.reading ≡ Reads.Body d → ((r : Request) (interim : List OriginResponse)
+      (response : OriginResponse) (content : List ℕ) (g : Goes k c input (Hears r interim response content))
+      → g.told.decoder ≡ d → P (Hears r interim response content)) → (now : Now) → Goes k c input now → P now
   heard P {d} is f Fresh g = absurd (rests_body c.writing d (rw is at g.at))
   heard P is f (Asked r interim) g = absurd (cc (is, g.at.0))
   heard P is f (Hears r interim response content) g = f r interim response content g (cc (is, g.at.0))
   heard P {d} is f (Over e) g = absurd (rests_body c.writing d (rw is at g.at.0))
 
-  piece_now : {next : Client} {rest : List ℕ} (d after : Decoder) (len : ℕ) (piece : List ℕ)
-      → c.reading ≡ Reads.Body d → Continues d input after len piece → rest ≡ drop len input
-      → next ≡ record c { reading = Reads.Body after } → (now : Now) → Goes k c input now
-      → Goes k next rest (tell (Is.Content piece) now)
+  piece_now : {next : Client} {rest : List ℕ} (d after : Decoder) (len : ℕ) (piece : List ℕ) → c.reading ≡ Reads.Body d
+      → Continues d input after len piece → rest ≡ drop len input → next ≡ record c { reading = Reads.Body after }
+      → (now : Now) → Goes k c input now → Goes k next rest (tell (Is.Content piece) now)
   piece_now {next} {rest} d after len piece is continues left goes =
       heard (λ now. Goes k next rest (tell (Is.Content piece) now)) is (λ r interim response content g same.
       hears_now r interim response content piece after len g (rw same continues) left goes)
 
   over_now : (fields : List Field) (rest : List ℕ) {d : Decoder} {trailers : Entries FieldValue} {next : Client}
-      → c.reading ≡ Reads.Body d
-      → ((more : List ℕ) → MayFollow k.ended more → Completes d (input ++ more) (body_of [] fields) (rest ++ more))
-      → trailers ≡ map_of (map name_and_value fields) → next.limits ≡ c.limits
-      → ((r : Request) (m : Message.Response) (framing : Framing)
-      → Sends c r (Reads.Body d) (keeps_both r m.head framing) → Rests next r m)
-      → (now : Now) → Goes k c input now → Goes k next rest (tell (Is.End trailers) now)
+      → c.reading ≡ Reads.Body d → ((more : List ℕ) → MayFollow k.ended more → Completes d (input ++ more)
+      (body_of [] fields) (rest ++ more)) → trailers ≡ map_of (map name_and_value fields) → next.limits ≡ c.limits →
+      ((r : Request) (m : Message.Response) (framing : Framing) → Sends c r (Reads.Body d) (keeps_both r m.head framing)
+      → Rests next r m) → (now : Now) → Goes k c input now → Goes k next rest (tell (Is.End trailers) now)
   over_now fields rest {d} {trailers} {next} is completes same limited rests =
       heard (λ now. Goes k next rest (tell (Is.End trailers) now)) is (λ r interim response content g decoders.
       let x = g.told in
@@ -385,11 +363,7 @@ module _ {k : Frame} {c : Client} {input : List ℕ} where
         limited = limited ∙ g.limited;
         told = record {
           final = m;
-          told = λ i. record {
-            response = x.told i;
-            content = (sym (append-nil content)) i;
-            trailers = same i;
-          };
+          told = λ i. record { response = x.told i; content = (sym (append-nil content)) i; trailers = same i };
           reads = λ more may. rw limited (record {
             between = x.at ++ more;
             interim = x.came more may;
@@ -430,10 +404,9 @@ module _ {k : Frame} {c : Client} {input : List ℕ} where
         (λ r interim g accepted. rw (interim_stays c h framing low) (record {
           since = g.since;
           limited = g.limited;
-          told = λ more may. interim-append interim _ (record { head = h; body = body_of [] [] }) (response_of h)
-              (g.told more may)
-              (bodiless (accepted more) (interim_has_no_body (method_kind r.method) (status_code h) accepts.status low))
-              refl low;
+          told = λ more may. interim-append interim _
+              (record { head = h; body = body_of [] [] }) (response_of h) (g.told more may) (bodiless
+              (accepted more) (interim_has_no_body (method_kind r.method) (status_code h) accepts.status low)) refl low;
           at = g.at;
         }))
 
@@ -519,13 +492,11 @@ goes_of r none = let left = r.left none in rw (← left.0, ← left.1) r.goes
 
 run_of : {limits : Limits} {ended : Bool} {c : Client} {i o : List ℕ} {f : Option OriginFault} {p : Past}
     → Goes (frame limits ended o p) c i p.now → Run limits ended c i o f p
-run_of {limits} {ended} {c} {i} {o} {f} {p} g =
-    record { client = c; unread = i; goes = g; left = λ none. (refl, refl) }
+run_of {limits} {ended} {c} {i} {o} {f} {p} g = record { client = c; unread = i; goes = g; left = λ none. (refl, refl) }
 
-run_grows : {limits : Limits} {old new : Bool} (bytes : List ℕ)
-    → ((more : List ℕ) → MayFollow new more → MayFollow old (bytes ++ more))
-    → {c : Client} {i o : List ℕ} {f : Option OriginFault} {p : Past} → Run limits old c i o f p
-    → Run limits new c (i ++ bytes) o f (record p { received = p.received ++ bytes })
+run_grows : {limits : Limits} {old new : Bool} (bytes : List ℕ) → ((more : List ℕ) → MayFollow new more
+    → MayFollow old (bytes ++ more)) → {c : Client} {i o : List ℕ} {f : Option OriginFault} {p : Past}
+    → Run limits old c i o f p → Run limits new c (i ++ bytes) o f (record p { received = p.received ++ bytes })
 run_grows {limits} {old} {new} bytes follows {c} {i} {o} {f} {p} r = record {
   client = r.client;
   unread = r.unread ++ bytes;
@@ -536,8 +507,7 @@ run_grows {limits} {old} {new} bytes follows {c} {i} {o} {f} {p} r = record {
 -- the input of a connection that waits within content that only its end ends
 waits_empty : (r : Reading) (c next : Client) (input rest : List ℕ) → c.reading ≡ r → WaitsAt r c input next rest
     → next.reading ≡ Reads.Body UntilClose → rest ≡ []
-waits_empty Reads.Head c next input rest is found until =
-    let reading = rw found.0 at until in absurd (cc)
+waits_empty Reads.Head c next input rest is found until = let reading = rw found.0 at until in absurd (cc)
 waits_empty (Reads.Body d) c next input rest is found until =
     let same : Reads.Body found.0 ≡ Reads.Body UntilClose = rw found.4 at until in
     let last : found.0 ≡ UntilClose = cc in
@@ -565,34 +535,27 @@ module _ {limits : Limits} {old new : OriginConnection} {p : Past} where
 
   close_goes : {trailers : Entries FieldValue} → old.ended ≡ true → old.input.items ≡ []
       → EndsContent old trailers new → GoesAt limits old p p.now → GoesAt limits new p (tell (Is.End trailers) p.now)
-  close_goes ended empty t g =
-      rw t.rest (over_now {c = old.client} {input = old.input.items} [] old.input.items t.reading
-      (λ more may. rw (empty, may ended) (refl, refl, refl)) t.parts t.limits
+  close_goes ended empty t g = rw t.rest (over_now {c = old.client} {input = old.input.items}
+      [] old.input.items t.reading (λ more may. rw (empty, may ended) (refl, refl, refl)) t.parts t.limits
       (λ r m framing sends. rw (t.writing, t.over) (tt, λ idle. absurd (cc))) p.now g)
 
 find_goes : {limits : Limits} {p : Past} (old new : OriginConnection) (event : OriginEvent) → Finds old event new
     → GoesAt limits old p p.now → GoesAt limits new p (tell event p.now)
 find_goes old new Is.NeedsInput found g = wait_goes found.1 g
-find_goes {limits} {p} old new (Is.Interim response) found g =
-    let t = found.1 in
+find_goes {limits} {p} old new (Is.Interim response) found g = let t = found.1 in
     rw (t.rest, t.client, t.parts) (interim_now t.head t.framing t.accepts t.due (rw t.parts at found.0) p.now g)
-find_goes {limits} {p} old new (Is.Head response) found g =
-    let t = found.2 in
+find_goes {limits} {p} old new (Is.Head response) found g = let t = found.2 in
     rw (t.rest, t.client, t.parts)
     (head_now t.head t.framing t.accepts t.due (rw t.parts at found.0) (rw t.parts at found.1) p.now g)
-find_goes {limits} {p} old new (Is.Content piece) found g =
-    rw found.rest (piece_now found.decoder found.next found.len piece found.reading found.continues found.input
-    found.client p.now g)
+find_goes {limits} {p} old new (Is.Content piece) found g = rw found.rest
+    (piece_now found.decoder found.next found.len piece found.reading found.continues found.input found.client p.now g)
 find_goes old new (Is.End trailers) (inl found) g = end_goes found g
-find_goes {limits} {p} old new (Is.End trailers) (inr found) g =
-    let w = found.2 in
-    close_goes {old = found.1} {new = new} (ap (λ (m : OriginConnection). m.ended) w.rest ∙ found.0)
-    (waits_empty old.client.reading old.client found.1.client old.input.items found.1.input.items refl w.found
-    found.3.reading) found.3 (wait_goes w g)
-find_goes {limits} {p} old new (Is.Switched response) found g =
-    let t = found.2 in
-    rw (t.rest, t.client, t.parts)
-    (switched_now t.head t.framing t.accepts t.due (rw t.parts at found.1) p.now g)
+find_goes {limits} {p} old new (Is.End trailers) (inr found) g = let w = found.2 in
+    close_goes {old = found.1} {new = new}
+    (ap (λ (m : OriginConnection). m.ended) w.rest ∙ found.0) (waits_empty old.client.reading
+    old.client found.1.client old.input.items found.1.input.items refl w.found found.3.reading) found.3 (wait_goes w g)
+find_goes {limits} {p} old new (Is.Switched response) found g = let t = found.2 in
+    rw (t.rest, t.client, t.parts) (switched_now t.head t.framing t.accepts t.due (rw t.parts at found.1) p.now g)
 find_goes old new Is.Closed (inl found) g = rw found.1 g
 find_goes old new Is.Closed (inr found) g = rw found.3.0 (wait_goes found.2 g)
 find_goes old new (Is.Broken fault) found g = absurd found
@@ -607,23 +570,20 @@ said : {limits : Limits} {p : Past} (old new : OriginConnection) (event : Origin
     → SaysAt f old event new → RunAt limits old p → RunAt limits new (record p { now = tell event p.now })
 said old new event (Some fault) is says r = rw (says.0, says.1) r
 said old new event None is (inl found) r = run_of (find_goes old new event found (goes_of r is))
-said old new event None is (inr failed) r =
-    let same = fails_same failed.2 in
+said old new event None is (inr failed) r = let same = fails_same failed.2 in
     rw (failed.3, failed.4, same.0, same.1)
     (record { client = r.client; unread = r.unread; goes = r.goes; left = λ none. absurd (cc) })
 
 -- the client that begins a request
 requests : (c : Client) (method : List ℕ) (headers : List Header) (line : Bool) (plan : Result Plan WriteError)
-    → plan_refusal plan line headers ≡ None
-    → let next = requesting c method headers plan in
+    → plan_refusal plan line headers ≡ None → let next = requesting c method headers plan in
     (next.limits ≡ c.limits) × (next.reading ≡ c.reading) × (next.writing ≡ Writes.Body (encoder_in plan))
     × (next.method ≡ method_kind method) × (next.keep_alive ≡ keeps_in plan)
 requests c method headers line (Ok plan) accepted = (refl, refl, refl, refl, refl)
 requests c method headers line (Err error) accepted = absurd (cc)
 
 begun : {limits : Limits} {old new : OriginConnection} {p : Past} {method target : List ℕ} {headers : List Header}
-    {size : BodySize} → Begins old method target headers size new → RunAt limits old p
-    → RunAt limits new
+    {size : BodySize} → Begins old method target headers size new → RunAt limits old p → RunAt limits new
     (record p { before = p.before ++ is_over p.now; now = Asked (asks method target headers size) [] })
 begun {limits} {old} {new} {p} {method} {target} {headers} {size} b r =
     let g = goes_of r b.fit.whole in
@@ -783,14 +743,12 @@ end_found : (old new : OriginConnection) (trailers : Entries FieldValue) → Fin
     → ¬ (old.client.reading ≡ Reads.Head)
 end_found old new trailers (inl ends) due =
     let clash : Reads.Body ends.decoder ≡ Reads.Head = sym ends.reading ∙ due in absurd (cc)
-end_found old new trailers (inr ends) due =
-    waits_due old.client.reading old.client ends.1.client old.input.items ends.1.input.items refl ends.2.found
-    ends.3.reading due
+end_found old new trailers (inr ends) due = waits_due
+    old.client.reading old.client ends.1.client old.input.items ends.1.input.items refl ends.2.found ends.3.reading due
 
-pub end_late : {limits : Limits} {old : OriginConnection} {p : Past} (new : OriginConnection) (r : Request)
-    (interim : List OriginResponse)
-    (trailers : Entries FieldValue) → IsReached limits old p → p.now ≡ Asked r interim
-    → ¬ (SaysAt old.fault old (Is.End trailers) new)
+pub end_late : {limits : Limits} {old : OriginConnection} {p : Past}
+    (new : OriginConnection) (r : Request) (interim : List OriginResponse) (trailers : Entries FieldValue)
+    → IsReached limits old p → p.now ≡ Asked r interim → ¬ (SaysAt old.fault old (Is.End trailers) new)
 end_late {limits} {old} {p} new r interim trailers reached is says =
     let found = found_at old.fault old new (Is.End trailers) says (λ fault is. absurd (cc)) in
     end_found old new trailers found.1 (reads_when (Asked r interim) reached found.0 is)

@@ -17,10 +17,9 @@ span_bytes-take n text s within = slice_range_front (take n text) text s.start s
 header_bytes-take : (n : ℕ) (text : List ℕ) (spans : List HeaderSpan) → All (IsHeaderWithin n) spans
     → map (header_bytes (take n text)) spans ≡ map (header_bytes text) spans
 header_bytes-take n text [] all = refl
-header_bytes-take n text (h ∷ spans) all =
-    let within = All-head (IsHeaderWithin n) h spans all in
-    λ i. (span_bytes-take n text h.name within.0 i, span_bytes-take n text h.value within.1 i)
-    ∷ header_bytes-take n text spans (All-tail (IsHeaderWithin n) h spans all) i
+header_bytes-take n text (h ∷ spans) all = let within = All-head (IsHeaderWithin n) h spans all in
+    λ i. (span_bytes-take n text h.name within.0 i, span_bytes-take n text h.value within.1 i) ∷ header_bytes-take
+    n text spans (All-tail (IsHeaderWithin n) h spans all) i
 
 fold_at : (text : List ℕ) (spans : List HeaderSpan) (m : Entries FieldValue)
     → fold (λ m h. append m (entry_at text h).0 (entry_at text h).1) m spans
@@ -29,9 +28,8 @@ fold_at text [] m = refl
 fold_at text (h ∷ spans) m = fold_at text spans _
 
 -- the map of the spans in the first bytes is that of the fields under them
-pub map_at-take : (n : ℕ) (text : List ℕ) (spans : List HeaderSpan) (count : ℕ)
-    → All (IsHeaderWithin n) (take count spans) → map_at (take n text) (take count spans)
-    ≡ map_of (headers_at text spans count)
+pub map_at-take : (n : ℕ) (text : List ℕ) (spans : List HeaderSpan) (count : ℕ) → All (IsHeaderWithin n)
+    (take count spans) → map_at (take n text) (take count spans) ≡ map_of (headers_at text spans count)
 map_at-take n text spans count all =
     fold_at (take n text) (take count spans) [] ∙ ap map_of (header_bytes-take n text (take count spans) all)
 
@@ -53,10 +51,8 @@ module _ (n : ℕ) (text : List ℕ) (spans : List HeaderSpan) (within : All (Is
 
   first_map : (count : ℕ) → map_at (take n text) (take count spans)
       ≡ map_of (take count (map (header_bytes text) spans))
-  first_map count =
-      fold_at (take n text) (take count spans) []
-      ∙ ap map_of (header_bytes-take n text (take count spans) (All-take (IsHeaderWithin n) count spans within)
-      ∙ sym (take-map (header_bytes text) count spans))
+  first_map count = fold_at (take n text) (take count spans) [] ∙ ap map_of (header_bytes-take n text (take count spans)
+      (All-take (IsHeaderWithin n) count spans within) ∙ sym (take-map (header_bytes text) count spans))
 
   -- why the fields under the spans have no map
   pub map_fails : (e : Error) → MapError (take n text) spans e → IsMapFailure (map (header_bytes text) spans) e

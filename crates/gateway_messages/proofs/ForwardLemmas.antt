@@ -199,8 +199,7 @@ module _ (gateway : Gateway) (message : Message) (m : Entries FieldValue) (uniqu
 
   by_name : (name : List ℕ)
       → lines_under sent name ≡ (if going name then lines_at m name else []) ++ lines_under own name
-  by_name name =
-      lines_under-append (filter (λ field. going field.0) (map field_of (pairs m))) own name
+  by_name name = lines_under-append (filter (λ field. going field.0) (map field_of (pairs m))) own name
       ∙ ap (λ lines. lines ++ lines_under own name) (lines_under-filter going (map field_of (pairs m)) name
       ∙ ap (λ lines. if going name then lines else []) (received_lines m name unique))
 
@@ -212,8 +211,7 @@ module _ (gateway : Gateway) (message : Message) (m : Entries FieldValue) (uniqu
 
   sent_end_to_end : (name : List ℕ) → IsEndToEnd gateway (lines_at m) name → is_misspelt gateway name ≡ false
       → All (λ own. own ≢ name) own_names → lines_under sent name ≡ lines_at m name
-  sent_end_to_end name e s others =
-      let v = differ _ _ (others 0 [] (lit< tt)) in
+  sent_end_to_end name e s others = let v = differ _ _ (others 0 [] (lit< tt)) in
       let h = differ _ _ (others 1 [] (lit< tt)) in
       let d = differ _ _ (others 2 [] (lit< tt)) in
       let n = differ _ _ (others 3 [] (lit< tt)) in
@@ -227,9 +225,8 @@ module _ (gateway : Gateway) (message : Message) (m : Entries FieldValue) (uniqu
       (rw d' (never (is_some message.date))) (rw n' (never (is_some message.hops))) in
       kept name g ∙ rw (own_none _ _ _ v h d n l c) (append-nil (lines_at m name))
 
-  apart : (fixed name : List ℕ)
-      → is_hop_by_hop gateway.consumes_credentials (connection_options (lines_at m)) fixed ≡ false
-      → IsHopByHop gateway (lines_at m) name → fixed ≢ name
+  apart : (fixed name : List ℕ) → is_hop_by_hop gateway.consumes_credentials
+      (connection_options (lines_at m)) fixed ≡ false → IsHopByHop gateway (lines_at m) name → fixed ≢ name
   apart fixed name f t same = grind (arith, gateway)
 
   sent_hop_by_hop : (name : List ℕ) → IsHopByHop gateway (lines_at m) name → name ≢ codes "transfer-encoding"
@@ -274,8 +271,7 @@ module _ (gateway : Gateway) (message : Message) (m : Entries FieldValue) (uniqu
     where
       by : (o : Option Line) → message.host ≡ o
           → lines_under sent (codes "host") ≡ replaced message.host (lines_at m (codes "host"))
-      by None e =
-          kept (codes "host") (
+      by None e = kept (codes "host") (
           goes gateway message options (codes "host") (host_end_to_end further options unprotected consumes)
           (well_spelt gateway (codes "host") refl) refl
           (rw e refl) (never (is_some message.date)) (never (is_some message.hops)))
@@ -290,8 +286,7 @@ module _ (gateway : Gateway) (message : Message) (m : Entries FieldValue) (uniqu
     where
       by : (o : Option ℕ) → message.date ≡ o → lines_under sent (codes "date")
           ≡ replaced (option_map fixdate message.date) (lines_at m (codes "date"))
-      by None e =
-          kept (codes "date") (
+      by None e = kept (codes "date") (
           goes gateway message options (codes "date") (date_end_to_end further options unprotected consumes)
           (well_spelt gateway (codes "date") refl) refl
           (never (is_some message.host)) (rw e refl) (never (is_some message.hops)))
@@ -320,16 +315,15 @@ module _ (gateway : Gateway) (message : Message) (m : Entries FieldValue) (uniqu
           ∙ own_hops gateway.pseudonym message ∙ rw e refl
 
   pub forwards : (fields : List Field) → fields ≡ sent → Forwards gateway message (lines_at m) (lines_under fields)
-  forwards fields e =
-      grind (
-        arith,
-        sent_end_to_end,
-        sent_misspelt,
-        sent_hop_by_hop,
-        sent_via,
-        sent_host,
-        sent_date,
-        sent_hops,
-        sent_length,
-        sent_coding,
-      )
+  forwards fields e = grind (
+    arith,
+    sent_end_to_end,
+    sent_misspelt,
+    sent_hop_by_hop,
+    sent_via,
+    sent_host,
+    sent_date,
+    sent_hops,
+    sent_length,
+    sent_coding,
+  )

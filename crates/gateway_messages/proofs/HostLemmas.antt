@@ -126,28 +126,26 @@ pub test_of_parts : (parts : List Line) → list_all is_name_part parts ≡ true
 unfolding is_reg_name
 test_of_parts [] h = refl
 test_of_parts ([] ∷ parts) h = absurd (false≢true h)
-test_of_parts ((b ∷ []) ∷ parts) h =
-    grind (
-      arith,
-      and_parts,
-      and_from,
-      concat,
-      or_left,
-      test_of_parts parts (and_parts (is_name_byte b) (list_all is_name_part parts) h).1,
-    )
+test_of_parts ((b ∷ []) ∷ parts) h = grind (
+  arith,
+  and_parts,
+  and_from,
+  concat,
+  or_left,
+  test_of_parts parts (and_parts (is_name_byte b) (list_all is_name_part parts) h).1,
+)
 test_of_parts ((b ∷ c ∷ []) ∷ parts) h = absurd (false≢true h)
-test_of_parts ((b ∷ c ∷ d ∷ []) ∷ parts) h =
-    grind (
-      arith,
-      and_parts,
-      is_ascii_hexdigit,
-      and_from,
-      concat,
-      or_right,
-      or_left,
-      hex_is_name,
-      test_of_parts parts (and_parts (is_encoded b c d) (list_all is_name_part parts) h).1,
-    )
+test_of_parts ((b ∷ c ∷ d ∷ []) ∷ parts) h = grind (
+  arith,
+  and_parts,
+  is_ascii_hexdigit,
+  and_from,
+  concat,
+  or_right,
+  or_left,
+  hex_is_name,
+  test_of_parts parts (and_parts (is_encoded b c d) (list_all is_name_part parts) h).1,
+)
 test_of_parts ((b ∷ c ∷ d ∷ e ∷ s) ∷ parts) h = absurd (false≢true h)
 
 test_of_name : (s : Line) → IsRegName s → is_reg_name s ≡ true
@@ -156,8 +154,7 @@ test_of_name s n = ap is_reg_name n.spelled ∙ test_of_parts n.parts n.valid
 plain_name : (s : Line) → list_all is_name_byte s ≡ true → is_reg_name s ≡ true
 unfolding is_reg_name
 plain_name [] h = refl
-plain_name (b ∷ s) h =
-    let here = and_parts (is_name_byte b) (list_all is_name_byte s) h in
+plain_name (b ∷ s) h = let here = and_parts (is_name_byte b) (list_all is_name_byte s) h in
     and_from (is_name_byte b || begins_encoded (b ∷ s)) (is_reg_name s) (or_left _ _ here.0) (plain_name s here.1)
 
 encoded_percent : (b : ℕ) (s : Line) → begins_encoded (b ∷ s) ≡ true → b ≡ 37
@@ -253,8 +250,7 @@ groups_outside ipv4 lead text (segment ∷ segments) l (inl h) =
     let below = groups_outside ipv4 (codes ":") rest segments (unfold outside_bracket in refl) later in
     ap (list_all outside_bracket) split ∙ all_both outside_bracket _ _
     (all_both outside_bracket _ _ l (group_outside _ is_group.0.0.1)) below
-groups_outside ipv4 lead text (segment ∷ segments) l (inr h) =
-    let (last, octets, is_ipv4, split, dotted, same) = h in
+groups_outside ipv4 lead text (segment ∷ segments) l (inr h) = let (last, octets, is_ipv4, split, dotted, same) = h in
     ap (list_all outside_bracket) split ∙ all_both outside_bracket _ _ l (dotted_outside _ _ dotted)
 
 colon_hex_outside : (text segments : List ℕ) → IsColonHex text segments → list_all outside_bracket text ≡ true
@@ -265,26 +261,24 @@ colon_hex_outside text segments (inr h) =
     (unfold outside_bracket in refl)) (groups_outside true [] h.tail_text h.tail refl h.tail_groups)
 
 future_outside : (text : Line) → IsFutureAddress text → list_all outside_bracket text ≡ true
-future_outside text h =
-    grind (
-      arith,
-      weaker,
-      outside_bracket,
-      address_outside,
-      is_ascii_hexdigit,
-      hex_outside,
-      all_both,
-      and_from,
-      letter_outside,
-    )
+future_outside text h = grind (
+  arith,
+  weaker,
+  outside_bracket,
+  address_outside,
+  is_ascii_hexdigit,
+  hex_outside,
+  all_both,
+  and_from,
+  letter_outside,
+)
 
 address_is_outside : (text : Line) → IsAddress text → list_all outside_bracket text ≡ true
 address_is_outside text (inl h) = colon_hex_outside text _ h.1
 address_is_outside text (inr h) = future_outside text h
 
 ipv6_test : (text : Line) (address : Ipv6Addr) → IsIpv6Text text address → is_ipv6 text ≡ true
-ipv6_test text address h =
-    let read = rw append-nil at (read_ipv6_complete text address.segments [] h EndsGroups-nil) in
+ipv6_test text address h = let read = rw append-nil at (read_ipv6_complete text address.segments [] h EndsGroups-nil) in
     ap (λ r. is_some (whole_value r)) read
 
 whole_read : (r : Option (List ℕ × List ℕ)) → is_some (whole_value r) ≡ true
@@ -294,8 +288,7 @@ whole_read (Some (segments, [])) h = (segments, refl)
 whole_read (Some (segments, b ∷ rest)) h = grind (arith, nat_tests, false≢true)
 
 ipv6_of_test : (text : Line) → is_ipv6 text ≡ true → (address : Ipv6Addr) × IsIpv6Text text address
-ipv6_of_test text h =
-    let (segments, read) = whole_read (read_ipv6 text) h in
+ipv6_of_test text h = let (segments, read) = whole_read (read_ipv6 text) h in
     let (front, split, shown) = read_ipv6_sound text segments [] read in
     let same : text ≡ front = split ∙ append-nil front in
     let address : Ipv6Addr = record { segments = segments } in
@@ -303,11 +296,10 @@ ipv6_of_test text h =
 
 pub ipv6_result : {E : Type 0} (text : Line) (r : Result Ipv6Addr E) → Parses IsIpv6Text text r → is_ok r ≡ is_ipv6 text
 ipv6_result text (Ok address) h = sym (ipv6_test text address h)
-ipv6_result text (Err e) none =
-    elim (cases_Bool (is_ipv6 text)) [
-      | inl t ↦ let found = ipv6_of_test text t in absurd (none found.0 found.1)
-      | inr f ↦ sym f
-    ]
+ipv6_result text (Err e) none = elim (cases_Bool (is_ipv6 text)) [
+  | inl t ↦ let found = ipv6_of_test text t in absurd (none found.0 found.1)
+  | inr f ↦ sym f
+]
 
 not_empty : (s : Line) → 0 < length s → not (length s == 0) ≡ true
 not_empty [] h = absurd (omega (arith, h))
@@ -361,8 +353,7 @@ port_test (Some digits) h = h
 
 port_of_test : (s : Line) → is_port s ≡ true → (port : Option Line) × (has_digits port ≡ true) × (s ≡ port_text port)
 port_of_test [] h = (None, refl, refl)
-port_of_test (b ∷ s) h =
-    let here = and_parts (b == 58) (list_all is_ascii_digit s) h in
+port_of_test (b ∷ s) h = let here = and_parts (b == 58) (list_all is_ascii_digit s) h in
     (Some s, here.1, ap (λ (b : ℕ). b ∷ s) (eqb-true b 58 here.0))
 
 ends_name : (port : Option Line) → prefix_len before_colon (port_text port) ≡ 0
@@ -374,18 +365,17 @@ ends_name (Some digits) = unfold before_colon in refl
 named_test : (host : Line) (port : Option Line) → is_reg_name host ≡ true → has_digits port ≡ true
     → is_named_host (host ++ port_text port) ≡ true
 unfolding before_colon
-named_test host port name digits =
-    grind (
-      arith,
-      all_prefix,
-      before_colon,
-      name_has_no_colon,
-      ends_name,
-      take-append_seam,
-      drop-append_seam,
-      and_from,
-      port_test,
-    )
+named_test host port name digits = grind (
+  arith,
+  all_prefix,
+  before_colon,
+  name_has_no_colon,
+  ends_name,
+  take-append_seam,
+  drop-append_seam,
+  and_from,
+  port_test,
+)
 
 name_test : (host : Line) (port : Option Line) → is_reg_name host ≡ true → has_digits port ≡ true
     → is_host (host ++ port_text port) ≡ true
@@ -420,9 +410,8 @@ host_test line h = ap is_host h.spelled ∙ by h.host h.port h.is_host h.is_port
   where
     by : (host : Line) (port : Option Line) → IsUriHost host → has_digits port ≡ true
         → is_host (host ++ port_text port) ≡ true
-    by host port (inl literal) digits =
-        let shape : host ++ port_text port ≡ 91 ∷ (literal.inside ++ (93 ∷ port_text port))
-        = ap (λ (s : Line). s ++ port_text port) literal.spelled
+    by host port (inl literal) digits = let shape : host ++ port_text
+        port ≡ 91 ∷ (literal.inside ++ (93 ∷ port_text port)) = ap (λ (s : Line). s ++ port_text port) literal.spelled
         ∙ ap (λ (s : Line). 91 ∷ s) (append_assoc literal.inside (93 ∷ []) (port_text port)) in
         ap is_host shape ∙ literal_test literal.inside port literal.address digits
     by host port (inr (inl address)) digits = name_test host port (dotted_is_name host _ address.1) digits
@@ -432,8 +421,7 @@ host_test line h = ap is_host h.spelled ∙ by h.host h.port h.is_host h.is_port
 cut : (s : Line) → nat_lt (literal_len s) (length s) ≡ true
     → s ≡ take (literal_len s) s ++ (93 ∷ drop (literal_len s + 1) s)
 unfolding outside_bracket
-cut s h =
-    let within : literal_len s < length s = grind (arith, nat_tests) in
+cut s h = let within : literal_len s < length s = grind (arith, nat_tests) in
     let stops : not (get_or s (literal_len s) 0 == 93) ≡ false = prefix_len_stops outside_bracket s 0 within in
     let bracket : get_or s (literal_len s) 0 ≡ 93 = grind (arith, nat_tests) in
     let next : suc (literal_len s) ≡ literal_len s + 1 = omega arith in

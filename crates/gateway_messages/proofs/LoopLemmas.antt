@@ -28,8 +28,7 @@ words Protocol.Http11 pseudonym token = (
 
 own_named : (protocol : Protocol) (pseudonym : List ℕ) → IsToken pseudonym
     → names_gateway pseudonym (via_line protocol pseudonym) ≡ true
-own_named protocol pseudonym token =
-    let w = words protocol pseudonym token in
+own_named protocol pseudonym token = let w = words protocol pseudonym token in
     rw w.1 (rw ((bytes_eq-Decides (lowercase pseudonym) (lowercase pseudonym)).1 refl) (or-true _))
 
 pub own_loop : (gateway : Gateway) (message : Message) (received forwarded : LineMap) (added : List Line)

@@ -18,8 +18,7 @@ one_less hops request next counts writes step = by step.sent.hops refl
   where
     by : (o : Option ℕ) → step.sent.hops ≡ o
         → (left : ℕ) × (hops ≡ left + 1) × (hops_in (next.fields (codes "max-forwards")) ≡ Some left)
-    by None e =
-        let limit : HasHops request.method request.fields None = rw e at step.forwarded.hops in
+    by None e = let limit : HasHops request.method request.fields None = rw e at step.forwarded.hops in
         absurd (cc (writes, ap hops_in (limit counts)))
     by (Some left) e =
         let limit : HasHops request.method request.fields (Some (left + 1)) = rw e at step.forwarded.hops in
@@ -34,9 +33,8 @@ one_less hops request next counts writes step = by step.sent.hops refl
 pub bounded : (hops : ℕ) (request : Request) (passed : List Request) → IsTrue (counts_hops request.method)
     → hops_in (request.fields (codes "max-forwards")) ≡ Some hops → IsChain request passed → length passed ≤ hops
 bounded hops request [] counts writes chain = omega arith
-bounded hops request (next ∷ rest) counts writes chain =
-    let less = one_less hops request next counts writes chain.0 in
-    let counts' : IsTrue (counts_hops next.method)
-    = subst (λ (method : List ℕ). IsTrue (counts_hops method)) (sym chain.0.received.method) counts in
+bounded hops request (next ∷ rest) counts writes chain = let less = one_less hops request next counts writes chain.0 in
+    let counts' : IsTrue (counts_hops next.method) = subst
+    (λ (method : List ℕ). IsTrue (counts_hops method)) (sym chain.0.received.method) counts in
     let below : length rest ≤ less.0 = bounded less.0 next rest counts' less.2 chain.1 in
     let one : hops ≡ less.0 + 1 = less.1 in omega (arith, below, one)

@@ -63,8 +63,7 @@ unframed protocol message framing Rejection.UnknownExpectation f r = r
 unframed protocol message framing Rejection.SwitchedProtocols f r = r
 
 abbrev IsFramedOrNot : Protocol → LineMap → Type 0
-IsFramedOrNot protocol message =
-    ((rejection : Rejection) × RejectsFraming protocol message rejection)
+IsFramedOrNot protocol message = ((rejection : Rejection) × RejectsFraming protocol message rejection)
     ⊎ ((framing : Framing) × States protocol message framing)
 
 some_line : (lines : List Line) (line : Line) (rest : List Line) → lines ≡ line ∷ rest → HasLine lines
@@ -74,29 +73,26 @@ some_line lines line rest e = let some = ap length e in omega (arith, some)
 length_or_not : (lines : List Line) → ((len : ℕ) → ¬ (StatesLength lines len)) ⊎ ((len : ℕ) × StatesLength lines len)
 length_or_not lines = first (first_number (field_members true lines)) refl
   where
-    each : (n : ℕ) → first_number (field_members true lines) ≡ Some n
-        → list_all (writes_length n) (field_members true lines) ≡ true
-        → ((len : ℕ) → ¬ (StatesLength lines len)) ⊎ ((len : ℕ) × StatesLength lines len)
-    each n e all =
-        elim (cases_Bool (nat_lt n (2 ^ 63))) [
-          | inl t ↦ inr (n, record { first = e; each = all; fits = ltb-true _ _ t })
-          | inr f ↦ inl (λ len s.
-              let same : n ≡ len = cc (e, s.first) in
-              let fits : n < 2 ^ 63 = subst (λ (k : ℕ). k < 2 ^ 63) (sym same) s.fits in
-              cc (f, lt-ltb _ _ fits))
-        ]
+    each : (n : ℕ) → first_number (field_members true lines) ≡ Some n → list_all (writes_length n) (field_members
+        true lines) ≡ true → ((len : ℕ) → ¬ (StatesLength lines len)) ⊎ ((len : ℕ) × StatesLength lines len)
+    each n e all = elim (cases_Bool (nat_lt n (2 ^ 63))) [
+      | inl t ↦ inr (n, record { first = e; each = all; fits = ltb-true _ _ t })
+      | inr f ↦ inl (λ len s.
+          let same : n ≡ len = cc (e, s.first) in
+          let fits : n < 2 ^ 63 = subst (λ (k : ℕ). k < 2 ^ 63) (sym same) s.fits in
+          cc (f, lt-ltb _ _ fits))
+    ]
 
     first : (o : Option ℕ) → first_number (field_members true lines) ≡ o
         → ((len : ℕ) → ¬ (StatesLength lines len)) ⊎ ((len : ℕ) × StatesLength lines len)
     first None e = inl (λ len s. cc (e, s.first))
-    first (Some n) e =
-        elim (cases_Bool (list_all (writes_length n) (field_members true lines))) [
-          | inl t ↦ each n e t
-          | inr f ↦ inl (λ len s.
-              let same : len ≡ n = cc (e, s.first) in
-              let P : ℕ → Type 0 = λ k. list_all (writes_length k) (field_members true lines) ≡ true in
-              let all : P n = subst P same s.each in cc (f, all))
-        ]
+    first (Some n) e = elim (cases_Bool (list_all (writes_length n) (field_members true lines))) [
+      | inl t ↦ each n e t
+      | inr f ↦ inl (λ len s.
+          let same : len ≡ n = cc (e, s.first) in
+          let P : ℕ → Type 0 = λ k. list_all (writes_length k) (field_members true lines) ≡ true in
+          let all : P n = subst P same s.each in cc (f, all))
+    ]
 
 pub framed_or_not : (protocol : Protocol) (message : LineMap) → IsFramedOrNot protocol message
 framed_or_not protocol message = by (codings message) refl (lengths message) refl
@@ -108,28 +104,22 @@ framed_or_not protocol message = by (codings message) refl (lengths message) ref
 
     uncoded : HasLine (codings message) → is_chunked (codings message) ≡ false
         → (rejection : Rejection) × RejectsFraming protocol message rejection
-    uncoded h f =
-        elim (cases_Bool (ends_chunked (codings message))) [
-          | inl t ↦ (Rejection.UnknownCoding, (h, f, t))
-          | inr e ↦ (Rejection.LastCodingNotChunked, (h, f, e))
-        ]
+    uncoded h f = elim (cases_Bool (ends_chunked (codings message))) [
+      | inl t ↦ (Rejection.UnknownCoding, (h, f, t))
+      | inr e ↦ (Rejection.LastCodingNotChunked, (h, f, e))
+    ]
 
     by : (cs : List Line) → codings message ≡ cs → (ls : List Line) → lengths message ≡ ls
         → IsFramedOrNot protocol message
     by [] c [] l = inr (Unstated, (l, c))
-    by [] c (line ∷ rest) l =
-        elim (length_or_not _) [
-          | inl none ↦ inl (
-            Rejection.InvalidLength,
-            record { present = some_line _ _ _ l; invalid = none },
-          )
-          | inr some ↦ inr (Length some.0, (some.1, c))
-        ]
-    by (coding ∷ others) c [] l =
-        elim (cases_Bool (is_chunked (codings message))) [
-          | inl t ↦ coded protocol refl t (some_line _ _ _ c) l
-          | inr f ↦ inl (uncoded (some_line _ _ _ c) f)
-        ]
+    by [] c (line ∷ rest) l = elim (length_or_not _) [
+      | inl none ↦ inl (Rejection.InvalidLength, record { present = some_line _ _ _ l; invalid = none })
+      | inr some ↦ inr (Length some.0, (some.1, c))
+    ]
+    by (coding ∷ others) c [] l = elim (cases_Bool (is_chunked (codings message))) [
+      | inl t ↦ coded protocol refl t (some_line _ _ _ c) l
+      | inr f ↦ inl (uncoded (some_line _ _ _ c) f)
+    ]
     by (coding ∷ others) c (line ∷ rest) l = inl (Rejection.LengthAndCoding, (some_line _ _ _ l, some_line _ _ _ c))
 
 -- ---- hops
@@ -151,11 +141,10 @@ limited method fields (Some hops) h r = cc (h.1, r.invalid)
 
 pub limit_or_not : (method : List ℕ) (fields : LineMap)
     → HasInvalidHops method fields ⊎ ((hops : Option ℕ) × HasHops method fields hops)
-limit_or_not method fields =
-    elim (cases_Bool (counts_hops method)) [
-      | inl t ↦ by t (fields (codes "max-forwards")) refl (hops_in (fields (codes "max-forwards"))) refl
-      | inr f ↦ inr (None, λ t. absurd (cc (t, f)))
-    ]
+limit_or_not method fields = elim (cases_Bool (counts_hops method)) [
+  | inl t ↦ by t (fields (codes "max-forwards")) refl (hops_in (fields (codes "max-forwards"))) refl
+  | inr f ↦ inr (None, λ t. absurd (cc (t, f)))
+]
   where
     by : IsTrue (counts_hops method) → (ls : List Line) → fields (codes "max-forwards") ≡ ls → (o : Option ℕ)
         → hops_in (fields (codes "max-forwards")) ≡ o

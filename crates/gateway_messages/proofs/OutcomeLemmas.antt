@@ -47,24 +47,23 @@ accept gateway request framing a (Some (suc n)) h =
     counted = let more : suc n ≡ n + 1 = omega arith in rw (sym more) h
 
 pub some_outcome : (gateway : Gateway) (request : Request) → HasOutcome gateway request
-some_outcome gateway request =
-    elim (cases_Bool (has_host request.protocol (request.fields (codes "host")))) [
-      | inr f ↦ inl (Rejection.InvalidHost, f)
-      | inl host ↦ elim (cases_Bool (is_loop gateway.pseudonym (request.fields (codes "via")))) [
-        | inl t ↦ inl (Rejection.Loop, t)
-        | inr first ↦ elim (cases_Bool (are_options (connection_options request.fields))) [
-          | inr f ↦ inl (Rejection.InvalidOption, f)
-          | inl listed ↦
-              elim (cases_Bool (names_protected gateway.protected.items (connection_options request.fields))) [
-                | inl t ↦ inl (Rejection.ProtectedOption, t)
-                | inr unprotected ↦ elim (cases_Bool (has_known_expectation (request.fields (codes "expect")))) [
-                  | inr f ↦ inl (Rejection.UnknownExpectation, f)
-                  | inl known ↦ framed host first (record { listed = listed; unprotected = unprotected }) known
-                ]
-              ]
-        ]
-      ]
+some_outcome gateway request = elim (cases_Bool (has_host request.protocol (request.fields (codes "host")))) [
+  | inr f ↦ inl (Rejection.InvalidHost, f)
+  | inl host ↦ elim (cases_Bool (is_loop gateway.pseudonym (request.fields (codes "via")))) [
+    | inl t ↦ inl (Rejection.Loop, t)
+    | inr first ↦ elim (cases_Bool (are_options (connection_options request.fields))) [
+      | inr f ↦ inl (Rejection.InvalidOption, f)
+      | inl listed ↦
+          elim (cases_Bool (names_protected gateway.protected.items (connection_options request.fields))) [
+            | inl t ↦ inl (Rejection.ProtectedOption, t)
+            | inr unprotected ↦ elim (cases_Bool (has_known_expectation (request.fields (codes "expect")))) [
+              | inr f ↦ inl (Rejection.UnknownExpectation, f)
+              | inl known ↦ framed host first (record { listed = listed; unprotected = unprotected }) known
+            ]
+          ]
     ]
+  ]
+]
   where
     unframe : (rejection : Rejection) → RejectsFraming request.protocol request.fields rejection
         → IsRejected gateway request
@@ -84,18 +83,11 @@ some_outcome gateway request =
     framed : has_host request.protocol (request.fields (codes "host")) ≡ true
         → is_loop gateway.pseudonym (request.fields (codes "via")) ≡ false → HasFairOptions gateway request.fields
         → has_known_expectation (request.fields (codes "expect")) ≡ true → HasOutcome gateway request
-    framed host first options known =
-        elim (framed_or_not request.protocol request.fields) [
-          | inl r ↦ inl (unframe r.0 r.1)
-          | inr f ↦ elim (limit_or_not request.method request.fields) [
-            | inl r ↦ inl (Rejection.InvalidHops, r)
-            | inr h ↦ accept gateway request f.0
-                (record {
-                  states = f.1;
-                  options = options;
-                  host = host;
-                  first_time = first;
-                  expectation = known;
-                }) h.0 h.1
-          ]
-        ]
+    framed host first options known = elim (framed_or_not request.protocol request.fields) [
+      | inl r ↦ inl (unframe r.0 r.1)
+      | inr f ↦ elim (limit_or_not request.method request.fields) [
+        | inl r ↦ inl (Rejection.InvalidHops, r)
+        | inr h ↦ accept gateway request f.0
+            (record { states = f.1; options = options; host = host; first_time = first; expectation = known }) h.0 h.1
+      ]
+    ]

@@ -22,8 +22,7 @@ module _ (test : List ℕ → Bool) where
   passing fields = filter (λ field. test field.0) fields
 
   abbrev IsFiltered : List Field → List ℕ → Type 0
-  IsFiltered fields name =
-      lines_under (passing fields) name ≡ (if test name then lines_under fields name else [])
+  IsFiltered fields name = lines_under (passing fields) name ≡ (if test name then lines_under fields name else [])
 
   filtered_own : (field : Field) (fields : List Field) (name : List ℕ) → bytes_eq field.0 name ≡ true
       → IsFiltered fields name → IsFiltered (field ∷ fields) name
@@ -50,8 +49,7 @@ map_lines m name = lines_under (map field_of (pairs m)) name
 
 cons_lines : (e : Entry FieldValue) (m : Entries FieldValue) (name : List ℕ)
     → map_lines (e ∷ m) name ≡ (if bytes_eq e.0 name then lines_of e.1 else []) ++ map_lines m name
-cons_lines e m name =
-    ap (λ fields. lines_under fields name) (map-append field_of (entry_pairs e) (pairs m))
+cons_lines e m name = ap (λ fields. lines_under fields name) (map-append field_of (entry_pairs e) (pairs m))
     ∙ lines_under-append (map field_of (entry_pairs e)) (map field_of (pairs m)) name
     ∙ ap (λ lines. lines ++ map_lines m name) (entry_lines e.0 e.1 name)
 
@@ -61,24 +59,21 @@ IsAbsent m name = (i : ℕ) → i < length m → (entry_at m i).0 ≢ name
 
 absent_none : (m : Entries FieldValue) (name : List ℕ) → IsAbsent m name → map_lines m name ≡ []
 absent_none [] name absent = refl
-absent_none (e ∷ m) name absent =
-    cons_lines e m _ ∙ rw (differ e.0 name (absent 0 (omega arith)))
-    (absent_none m name (λ i lt. absent (suc i) (omega arith)))
+absent_none (e ∷ m) name absent = cons_lines e m _
+    ∙ rw (differ e.0 name (absent 0 (omega arith))) (absent_none m name (λ i lt. absent (suc i) (omega arith)))
 
 pub received_lines : (m : Entries FieldValue) (name : List ℕ) → IsUnique m → map_lines m name ≡ lines_at m name
 received_lines [] name unique = refl
-received_lines (e ∷ m) name unique =
-    cons_lines e m name ∙ elim (cases_Bool (bytes_eq e.0 name)) [
-      | inl t ↦ rw t (
-          ap (λ rest. lines_of e.1 ++ rest) (absent_none m name (absent ((bytes_eq-Decides e.0 name).0 t)))
-          ∙ append-nil (lines_of e.1))
-      | inr f ↦ rw f (received_lines m name below)
-    ]
+received_lines (e ∷ m) name unique = cons_lines e m name ∙ elim (cases_Bool (bytes_eq e.0 name)) [
+  | inl t ↦ rw t (
+      ap (λ rest. lines_of e.1 ++ rest) (absent_none m name (absent ((bytes_eq-Decides e.0 name).0 t)))
+      ∙ append-nil (lines_of e.1))
+  | inr f ↦ rw f (received_lines m name below)
+]
   where
     absent : e.0 ≡ name → IsAbsent m name
     absent own i lt at =
         let same : 0 ≡ suc i = unique 0 (suc i) (omega arith) (omega arith) (own ∙ sym at) in omega arith
 
     below : IsUnique m
-    below i j hi hj at =
-        let same : suc i ≡ suc j = unique (suc i) (suc j) (omega arith) (omega arith) at in omega arith
+    below i j hi hj at = let same : suc i ≡ suc j = unique (suc i) (suc j) (omega arith) (omega arith) at in omega arith

@@ -62,10 +62,9 @@ fitting protocol received framing s = tt
 pub request_alike : (gateway : Gateway) (request : Request) (sent : ForwardedRequest) (recipient : Recipient)
     → IsForwarded gateway request sent → KnowsPlain recipient
     → framing_by recipient (fields_of sent.fields.items) ≡ accepted_by recipient sent.framing
-request_alike gateway request sent recipient p k =
-    read_alike gateway (message_of request sent.framing sent.hops) request.fields
-    (fields_of sent.fields.items) recipient
-    p.fields (fitting request.protocol request.fields sent.framing p.accepted.states) k
+request_alike gateway request sent recipient p k = read_alike gateway
+    (message_of request sent.framing sent.hops) request.fields (fields_of sent.fields.items) recipient p.fields
+    (fitting request.protocol request.fields sent.framing p.accepted.states) k
 
 -- ---- further field lines
 
@@ -123,14 +122,13 @@ spellings DashOrMark own underscored name e u t = (bytes_eq-Decides (dashed name
 pub know_plain : (spelling : Spelling) (pick : Pick) (parse : Line → Option ℕ) (limit : ℕ) (codings : Codings)
     (precedence : Precedence) → ParsesBelow limit parse
     → KnowsPlain (server spelling pick parse limit codings precedence)
-know_plain spelling pick parse limit codings precedence decimals =
-    record {
-      length_name = spelled spelling _ _ refl;
-      length_names = λ name. spellings spelling (codes "content-length") (codes "content_length") name refl refl;
-      coding_name = spelled spelling _ _ refl;
-      coding_names = λ name. spellings spelling (codes "transfer-encoding") (codes "transfer_encoding") name refl refl;
-      plain = plain;
-    }
+know_plain spelling pick parse limit codings precedence decimals = record {
+  length_name = spelled spelling _ _ refl;
+  length_names = λ name. spellings spelling (codes "content-length") (codes "content_length") name refl refl;
+  coding_name = spelled spelling _ _ refl;
+  coding_names = λ name. spellings spelling (codes "transfer-encoding") (codes "transfer_encoding") name refl refl;
+  plain = plain;
+}
   where
     none : (pick : Pick) → picked_by pick [] ≡ None
     none First = refl
@@ -152,10 +150,9 @@ know_plain spelling pick parse limit codings precedence decimals =
         ≡ (if is_within limit (Framing.Length len) then Some (Framing.Length len) else None)
     below len = elim (cases_Bool (nat_lt len limit)) [ inl t ↦ rw t refl | inr f ↦ rw f refl ]
 
-    plain : (framing : Framing) → Fits framing
-        → delimited_by precedence (option_map parse (picked_by pick (option_to_list (length_line framing))))
-        (chunked_by codings (option_to_list (coding_line framing)))
-        ≡ (if is_within limit framing then Some framing else None)
+    plain : (framing : Framing) → Fits framing → delimited_by precedence
+        (option_map parse (picked_by pick (option_to_list (length_line framing)))) (chunked_by codings
+        (option_to_list (coding_line framing))) ≡ (if is_within limit framing then Some framing else None)
     plain Framing.Unstated fits = rw (none pick, uncoded codings) refl
     plain (Framing.Length len) fits = rw (one pick (decimal len), uncoded codings, decimals len fits) (below len)
     plain Framing.Chunked fits = rw (none pick, coded codings) refl

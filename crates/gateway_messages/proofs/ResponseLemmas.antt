@@ -55,26 +55,24 @@ pub one_response_outcome : (gateway : Gateway) (response : Response) → HasOneR
 one_response_outcome gateway response = grind (arith, unaccepted, gateway, response)
 
 pub some_response_outcome : (gateway : Gateway) (response : Response) → HasResponseOutcome gateway response
-some_response_outcome gateway response =
-    elim (cases_Bool (response.status == 101)) [
-      | inl t ↦ inl (Rejection.SwitchedProtocols, t)
-      | inr same ↦ elim (cases_Bool (are_options (connection_options response.fields))) [
-        | inr f ↦ inl (Rejection.InvalidOption, f)
-        | inl listed ↦
-            elim (cases_Bool (names_protected gateway.protected.items (connection_options response.fields))) [
-              | inl t ↦ inl (Rejection.ProtectedOption, t)
-              | inr unprotected ↦ by same (record { listed = listed; unprotected = unprotected })
-                  (states_nothing response.method response.status) refl
-            ]
-      ]
-    ]
+some_response_outcome gateway response = elim (cases_Bool (response.status == 101)) [
+  | inl t ↦ inl (Rejection.SwitchedProtocols, t)
+  | inr same ↦ elim (cases_Bool (are_options (connection_options response.fields))) [
+    | inr f ↦ inl (Rejection.InvalidOption, f)
+    | inl listed ↦
+        elim (cases_Bool (names_protected gateway.protected.items (connection_options response.fields))) [
+          | inl t ↦ inl (Rejection.ProtectedOption, t)
+          | inr unprotected ↦ by same (record { listed = listed; unprotected = unprotected })
+              (states_nothing response.method response.status) refl
+        ]
+  ]
+]
   where
     accept : (framing : Framing) → IsAcceptedResponse gateway response framing → HasResponseOutcome gateway response
-    accept framing a =
-        elim (cases_Bool (is_known_to response.client response.status)) [
-          | inl t ↦ inr (inr (record { stated = framing; accepted = a; known = t }))
-          | inr f ↦ inr (inl (record { stated = framing; accepted = a; unknown = f }))
-        ]
+    accept framing a = elim (cases_Bool (is_known_to response.client response.status)) [
+      | inl t ↦ inr (inr (record { stated = framing; accepted = a; known = t }))
+      | inr f ↦ inr (inl (record { stated = framing; accepted = a; unknown = f }))
+    ]
 
     unframe : states_nothing response.method response.status ≡ false → (rejection : Rejection)
         → RejectsFraming response.protocol response.fields rejection → IsRejectedResponse gateway response
@@ -87,20 +85,18 @@ some_response_outcome gateway response =
 
     by : (response.status == 101) ≡ false → HasFairOptions gateway response.fields → (ignored : Bool)
         → states_nothing response.method response.status ≡ ignored → HasResponseOutcome gateway response
-    by same options true e =
-        let states : StatesUnless (states_nothing response.method response.status) response.protocol response.fields
-        Framing.Unstated
-        = subst (λ (b : Bool). StatesUnless b response.protocol response.fields Framing.Unstated) (sym e) refl in
+    by same options true e = let states : StatesUnless
+        (states_nothing response.method response.status) response.protocol response.fields Framing.Unstated = subst
+        (λ (b : Bool). StatesUnless b response.protocol response.fields Framing.Unstated) (sym e) refl in
         accept Framing.Unstated (record { states = states; options = options; same_protocol = same })
-    by same options false e =
-        elim (framed_or_not response.protocol response.fields) [
-          | inl r ↦ inl (unframe e r.0 r.1)
-          | inr f ↦
-              let states : StatesUnless (states_nothing response.method response.status) response.protocol
-              response.fields f.0
-              = subst (λ (b : Bool). StatesUnless b response.protocol response.fields f.0) (sym e) f.1 in
-              accept f.0 (record { states = states; options = options; same_protocol = same })
-        ]
+    by same options false e = elim (framed_or_not response.protocol response.fields) [
+      | inl r ↦ inl (unframe e r.0 r.1)
+      | inr f ↦
+          let states : StatesUnless (states_nothing response.method response.status) response.protocol
+          response.fields f.0
+          = subst (λ (b : Bool). StatesUnless b response.protocol response.fields f.0) (sym e) f.1 in
+          accept f.0 (record { states = states; options = options; same_protocol = same })
+    ]
 
 -- ---- what is forwarded
 

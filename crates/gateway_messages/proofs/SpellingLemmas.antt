@@ -26,13 +26,12 @@ lookalike gateway name own same other guarded =
 pub unlisted : (names : List (List ℕ)) (name own : List ℕ) → dashed name ≡ own
     → list_any (λ other. bytes_eq (dashed other) own) names ≡ false → list_any (bytes_eq name) names ≡ false
 unlisted [] name own same none = refl
-unlisted (other ∷ names) name own same none =
-    grind (
-      arith,
-      or_parts,
-      bytes_eq,
-      cases_Bool,
-      bytes_eq-Decides,
-      unlisted names name own same (or_parts (bytes_eq
-          (dashed other) own) (list_any (λ n. bytes_eq (dashed n) own) names) none).1,
-    )
+unlisted (other ∷ names) name own same none = grind (
+  arith,
+  or_parts,
+  bytes_eq,
+  cases_Bool,
+  bytes_eq-Decides,
+  unlisted names name own same (or_parts (bytes_eq
+      (dashed other) own) (list_any (λ n. bytes_eq (dashed n) own) names) none).1,
+)

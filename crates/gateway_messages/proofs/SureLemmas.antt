@@ -21,11 +21,10 @@ module _ (gateway : Gateway) (message : Message) (received f g : LineMap) (a : F
 
   -- it is this name, or another
   either : (own : List ℕ) → IsSame own → (own ≢ name → IsSame name) → IsSame name
-  either own same rest =
-      elim (cases_Bool (bytes_eq own name)) [
-        | inl t ↦ subst IsSame ((bytes_eq-Decides own name).0 t) same
-        | inr n ↦ rest (λ e. absurd (cc (n, (bytes_eq-Decides own name).1 e)))
-      ]
+  either own same rest = elim (cases_Bool (bytes_eq own name)) [
+    | inl t ↦ subst IsSame ((bytes_eq-Decides own name).0 t) same
+    | inr n ↦ rest (λ e. absurd (cc (n, (bytes_eq-Decides own name).1 e)))
+  ]
 
   same_end_to_end : is_hop_by_hop gateway.consumes_credentials (connection_options received) name ≡ false
       → is_misspelt gateway name ≡ false → IsSame name

@@ -7,9 +7,8 @@ use Rattle.gateway_messages.specs.{HopByHop.is_hop_by_hop, Trailers.{ForwardsTra
 use Rattle.gateway_messages.specs.declared.{framing.Framing.{Framing, TheVariants.Chunked}, gateway.Gateway.Gateway}
 use Rattle.gateway_messages.proofs.{ForwardLemmas.never, ReceivedLemmas.{lines_under-filter, received_lines}}
 
-goes : (gateway : Gateway) (options : List Member) (name : List ℕ)
-    → is_hop_by_hop gateway.consumes_credentials options name ≡ false → may_trail gateway name ≡ true
-    → trailer_goes_on gateway options name ≡ true
+goes : (gateway : Gateway) (options : List Member) (name : List ℕ) → is_hop_by_hop gateway.consumes_credentials
+    options name ≡ false → may_trail gateway name ≡ true → trailer_goes_on gateway options name ≡ true
 unfolding trailer_goes_on
 goes gateway options name e may = rw (e, may) refl
 
@@ -29,9 +28,8 @@ module _ (gateway : Gateway) (message : LineMap) (m : Entries FieldValue) (uniqu
 
   by_name : (fields : List Field) → fields ≡ filter (λ field. going field.0) (map field_of (pairs m))
       → (name : List ℕ) → lines_under fields name ≡ (if going name then lines_at m name else [])
-  by_name fields e name =
-      ap (λ (fs : List Field). lines_under fs name) e ∙ lines_under-filter going (map field_of (pairs m)) name ∙ ap
-      (λ lines. if going name then lines else []) (received_lines m _ unique)
+  by_name fields e name = ap (λ (fs : List Field). lines_under fs name) e ∙ lines_under-filter going
+      (map field_of (pairs m)) name ∙ ap (λ lines. if going name then lines else []) (received_lines m _ unique)
 
   left_out : (fields : List Field) → fields ≡ filter (λ field. going field.0) (map field_of (pairs m))
       → (name : List ℕ) → going name ≡ false → lines_under fields name ≡ []

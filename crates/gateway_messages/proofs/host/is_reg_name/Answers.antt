@@ -2,15 +2,11 @@ use Rattle.{std.proofs.Common.{sym, ◌∙◌}, gateway_messages.proofs.HostLemm
 use Rattle.gateway_messages.proofs.host.is_reg_name.Goals as goal
 
 pub returns-then-not-begins_part : goal.returns-then-not-begins_part
-returns-then-not-begins_part c =
-    sym (c.loop-rest.invariant
-    ∙ name_stops c.loop-rest.rest.now c.in-len1-up.len_at_least
-    (sym c.begins_part.ensures ∙ c.if-not-begins_part.true))
+returns-then-not-begins_part c = sym (c.loop-rest.invariant
+    ∙ name_stops c.loop-rest.rest.now c.in-len1-up.len_at_least (sym c.begins_part.ensures ∙ c.if-not-begins_part.true))
 
 pub loop-rest-preserved : goal.loop-rest-preserved
-loop-rest-preserved c =
-    c.loop-rest.invariant
-    ∙ name_goes_on c.loop-rest.rest.now c.in-len1-up.len_at_least
+loop-rest-preserved c = c.loop-rest.invariant ∙ name_goes_on c.loop-rest.rest.now c.in-len1-up.len_at_least
     (sym c.begins_part.ensures ∙ c.if-not-begins_part.false)
 
 pub returns : goal.returns

@@ -7,9 +7,8 @@ use Rattle.gateway_messages.proofs.StatedLemmas.{states_again}
 use Rattle.gateway_messages.proofs.laws.next_gateway_frames_alike.Goals as goal
 
 stated : ParsesOneWay → (gateway : Gateway) (request next : Request) (sent : ForwardedRequest)
-    → IsForwarded gateway request sent
-    → IsReceivedAs request.method sent next → next.protocol ≡ Protocol.Http11
-    → States next.protocol next.fields sent.framing
+    → IsForwarded gateway request sent → IsReceivedAs request.method sent next
+    → next.protocol ≡ Protocol.Http11 → States next.protocol next.fields sent.framing
 stated parses gateway request next sent p r e =
     let again : States Protocol.Http11 (lines_under (fields_of sent.fields.items)) sent.framing
     = states_again parses gateway (message_of request sent.framing sent.hops) request.fields _ sent.framing refl
@@ -21,6 +20,5 @@ pub returns-clause-states : goal.returns-clause-states
 returns-clause-states c = stated c.lists_parse_one_way.ensures
 
 pub returns-clause-forwards : goal.returns-clause-forwards
-returns-clause-forwards c first second request next sent last p r e q =
-    one_framing next.protocol next.fields last.framing sent.framing q.accepted.states
-    (stated c.lists_parse_one_way.ensures first request next sent p r e)
+returns-clause-forwards c first second request next sent last p r e q = one_framing next.protocol next.fields
+    last.framing sent.framing q.accepted.states (stated c.lists_parse_one_way.ensures first request next sent p r e)
