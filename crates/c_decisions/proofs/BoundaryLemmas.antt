@@ -10,7 +10,6 @@ boundary_byte_ascii b e = search rules
 pub IsUtf8-boundary : (text : List ℕ) → is_boundary text ≡ true → IsUtf8 text
 IsUtf8-boundary text e =
     let all : list_all is_boundary_byte text ≡ true = search rules in
-    IsUtf8-from_ascii text
-    (IsAscii-from_all text
+    IsUtf8-from_ascii text (IsAscii-from_all text
     (All-weaker (λ b. is_boundary_byte b ≡ true) (λ b. b < 128) boundary_byte_ascii text
     (AllPass-from_list_all is_boundary_byte text all)))

@@ -17,8 +17,7 @@ pub answer_told : (named : Option (List ℕ)) (found : List Facts) (now : ℕ) (
     → IsAnswer (λ time. time ≡ Some now) (left_for is_last) old.service.site
     (λ path entry. entry ≡ entry_at old.service.store.keys now named found path) request plan source
 answer_told named found now is_last old told request plan source knows answer =
-    let Is : HashKeys → ℕ → Option (List ℕ) → List Facts → ℕ → Site → Type 0 =
-    λ keys time paths entries left site.
+    let Is : HashKeys → ℕ → Option (List ℕ) → List Facts → ℕ → Site → Type 0 = λ keys time paths entries left site.
     IsAnswer (λ told. told ≡ Some time) left site (λ path entry. entry ≡ entry_at keys time paths entries path) request
     plan source in
     let store = told.service.store in
@@ -34,15 +33,12 @@ answer_told named found now is_last old told request plan source knows answer =
 
 pub planned : (found : List Facts) (now : ℕ) (is_last : Bool) (connection : ServerConnection) (path : List ℕ)
     (old told new : HeldFiles) (plan : ResponsePlan) (number : ℕ) (named : Option (List ℕ))
-    → connection.machine.phase ≡ Asking
-    → path ≡ uri_path (head_of connection.machine.request).uri → Names path named
-    → next_path (negotiates_of old) named found ≡ None
-    → Knows named found now is_last old told
+    → connection.machine.phase ≡ Asking → path ≡ uri_path (head_of connection.machine.request).uri → Names path named
+    → next_path (negotiates_of old) named found ≡ None → Knows named found now is_last old told
     → IsAnswer (λ time. time ≡ Some told.service.store.time) told.service.left told.service.site
     (λ path entry. entry ≡ entry_in told.service.store path) connection.machine.request plan new.service.source
     → IsSameSite told.service.site new.service.site → new.service.store ≡ told.service.store
-    → number ≡ number_of new.service.source (length found)
-    → IsPlanned found now is_last connection old new plan number
+    → number ≡ number_of new.service.source (length found) → IsPlanned found now is_last connection old new plan number
 planned found now is_last connection path old told new plan number named asks at names whole knows answer same store
     is = record {
       asks = asks;

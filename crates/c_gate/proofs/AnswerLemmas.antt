@@ -13,10 +13,9 @@ responds number status length section fields old new (Ok tt) code is holds given
   holds,
   subst (λ (n : ℕ). RespondsWith n length fields old new (Ok tt)) is given,
 )
-responds number status length section fields old new (Err failure) code is holds given =
-    inr (inr (inr (
-      code,
-      fields,
-      holds,
-      subst (λ (n : ℕ). RespondsWith n length fields old new (Err failure)) is given,
-    )))
+responds number status length section fields old new (Err failure) code is holds given = inr (inr (inr (
+  code,
+  fields,
+  holds,
+  subst (λ (n : ℕ). RespondsWith n length fields old new (Err failure)) is given,
+)))

@@ -10,8 +10,7 @@ use Rattle.c_gate.specs.{Calls.OnGate, Moves.IsTunnelOf, Origins.{ForwardsIn, Is
 pub taken_over : (old new : Option Held) (origin : OriginConnection) (after : Option Held)
     (answer : Result (Unit {0}) Failure) → OnGate IsTaken old new (Ok origin)
     → IsOpenedWith (Some origin) after answer → TakesOver old new None after answer
-taken_over (Some (held.Gate old)) (Some (held.Gate new)) origin after answer taken opened =
-    (Some origin, taken, opened)
+taken_over (Some (held.Gate old)) (Some (held.Gate new)) origin after answer taken opened = (Some origin, taken, opened)
 taken_over (Some (held.Gate old)) new origin after answer taken opened = absurd taken
 taken_over old new origin after answer taken opened = absurd (cc taken.0)
 

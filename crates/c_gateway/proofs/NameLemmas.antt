@@ -26,8 +26,7 @@ lines_of-more lines i line below is =
 -- one name more
 pub names-more : (f : Line → List ℕ) (before after : List Line) (line : Line) (names : List (List ℕ))
     → after ≡ before ++ line ∷ [] → names ≡ map f before → names ++ f line ∷ [] ≡ map f after
-names-more f before after line names next same =
-    ap (λ (all : List (List ℕ)). all ++ f line ∷ []) same
+names-more f before after line names next same = ap (λ (all : List (List ℕ)). all ++ f line ∷ []) same
     ∙ sym (map-append f before (line ∷ []))
     ∙ ap (map f) (sym next)
 

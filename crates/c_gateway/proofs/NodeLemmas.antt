@@ -12,8 +12,6 @@ IsUtf8-obfuscated [] e = IsUtf8-nil
 IsUtf8-obfuscated (b ∷ s) e =
     let first : b ≡ 95 = search rules in
     let rest : list_all is_obfuscated_byte s ≡ true = search rules in
-    IsUtf8-from_ascii (b ∷ s)
-    (IsAscii-from_all (b ∷ s)
-    (All-cons (λ byte. byte < 128) b s (omega (arith, first))
+    IsUtf8-from_ascii (b ∷ s) (IsAscii-from_all (b ∷ s) (All-cons (λ byte. byte < 128) b s (omega (arith, first))
     (All-weaker (λ byte. is_obfuscated_byte byte ≡ true) (λ byte. byte < 128) obfuscated_byte_ascii s
     (AllPass-from_list_all is_obfuscated_byte s rest))))

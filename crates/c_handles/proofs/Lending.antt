@@ -10,8 +10,7 @@ use denote.{Copied.Struct-Copied, Laws.Is, Opens.Opens, RattleType.{RattleType, 
 use denote.{SharingLaws.nothing_shr_laws, Struct.{Laws.RawPtr-copy, Lending.{Lends, Lends-nothing, lent_at}}}
 use denote.Struct.{Lending.lent_at_shr_laws, Owning.shape, Struct.Struct}
 
-pub loan_laws : RowLaws the_row → (at : Ptr) (has : Option the_row.Denot) (life : ℕ)
-    → ShrLaws (loan_shares at has life)
+pub loan_laws : RowLaws the_row → (at : Ptr) (has : Option the_row.Denot) (life : ℕ) → ShrLaws (loan_shares at has life)
 loan_laws laws at None life = nothing_shr_laws
 loan_laws laws at (Some held) life = lent_laws (lent_at the_row at held) (lent_at_shr_laws the_row laws at held) life
 

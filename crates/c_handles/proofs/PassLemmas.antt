@@ -16,36 +16,28 @@ lost_begin request now old new stepped facts begun =
     inr (refl, (begun.fields, begun.is_request), inr (looked begun.begins))
   where
     entered : (place : Place) → key_of stepped.pass ≡ request.target.now
-        → IsPlaced stepped.pass now old.queue new.queue place
-        → (new.queue ≡ old.queue)
+        → IsPlaced stepped.pass now old.queue new.queue place → (new.queue ≡ old.queue)
         ⊎ ((number : Result (Option ℕ) AllocError) × Enters request.target.now now old.queue new.queue number)
     entered place key (inl (apart, same, is)) = inl same
     entered place key (inr (collapses, (number, enters, is))) =
         inr (Ok number, subst (λ (target : List ℕ). Enters target now old.queue new.queue (Ok number)) key enters)
 
     looked : (IsAhead old.queue stepped.pass now None × IsStarted now old new begun.pass stepped facts)
-        ⊎ (IsWaiting now old new begun.pass stepped × (facts ≡ waiting))
-        → IsLookedUp request now old new
-    looked (inl (alone, started)) =
-        record {
-          does =
-              subst
-              (λ (key : List ℕ). Does (settings_of old.cache) (Looked key) (kept_of old.cache) (kept_of new.cache))
-              begun.key started.begun.does;
-          settings = started.begun.settings;
-          queue = entered stepped.place (ap string_bytes started.begun.same.key ∙ begun.key) started.place;
-          beside = started.beside;
-        }
-    looked (inr (waits, told)) =
-        record {
-          does =
-              subst
-              (λ (key : List ℕ). Does (settings_of old.cache) (Looked key) (kept_of old.cache) (kept_of new.cache))
-              begun.key waits.begun.does;
-          settings = waits.begun.settings;
-          queue = inl waits.queue;
-          beside = waits.beside;
-        }
+        ⊎ (IsWaiting now old new begun.pass stepped × (facts ≡ waiting)) → IsLookedUp request now old new
+    looked (inl (alone, started)) = record {
+      does = subst (λ (key : List ℕ). Does (settings_of old.cache) (Looked key) (kept_of old.cache) (kept_of new.cache))
+          begun.key started.begun.does;
+      settings = started.begun.settings;
+      queue = entered stepped.place (ap string_bytes started.begun.same.key ∙ begun.key) started.place;
+      beside = started.beside;
+    }
+    looked (inr (waits, told)) = record {
+      does = subst (λ (key : List ℕ). Does (settings_of old.cache) (Looked key) (kept_of old.cache) (kept_of new.cache))
+          begun.key waits.begun.does;
+      settings = waits.begun.settings;
+      queue = inl waits.queue;
+      beside = waits.beside;
+    }
 
 lost_in : (request : CacheRequest) (now : ℕ) (old new : Held) (stepped : Stepped) (facts : PassFacts)
     → OnCache (Begins request now) (Some old) (Some new) (Ok (stepped, facts))
@@ -75,14 +67,12 @@ lost_in request now (held.GateOrigin origin) new stepped facts is = absurd (cc i
 
 -- through the handles
 pub lost_through : (request : CacheRequest) (now : ℕ) (old new before after : Option Held) (had has : Held)
-    (stepped : Stepped) (facts : PassFacts)
-    → old ≡ Some had → new ≡ Some has → before ≡ None → after ≡ None
+    (stepped : Stepped) (facts : PassFacts) → old ≡ Some had → new ≡ Some has → before ≡ None → after ≡ None
     → OnCache (Begins request now) (Some had) (Some has) (Ok (stepped, facts))
     → BeginsThrough request now old new before after (Err Memory)
-lost_through request now old new before after had has stepped facts old_is new_is before_is after_is is =
-    subst (λ (it : Option Held). BeginsThrough request now it new before after (Err Memory)) (sym old_is)
+lost_through request now old new before after had has stepped facts old_is new_is before_is after_is is = subst
+    (λ (it : Option Held). BeginsThrough request now it new before after (Err Memory)) (sym old_is)
     (subst (λ (it : Option Held). BeginsThrough request now (Some had) it before after (Err Memory)) (sym new_is)
-    (subst (λ (it : Option Held). BeginsThrough request now (Some had) (Some has) it after (Err Memory))
-    (sym before_is)
+    (subst (λ (it : Option Held). BeginsThrough request now (Some had) (Some has) it after (Err Memory)) (sym before_is)
     (subst (λ (it : Option Held). BeginsThrough request now (Some had) (Some has) None it (Err Memory)) (sym after_is)
     (lost_in request now had has stepped facts is))))

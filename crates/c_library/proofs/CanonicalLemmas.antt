@@ -5,8 +5,7 @@ use Rattle.headers_section.specs.{CanonicalText.{Block, IsBlock, IsCanonicalText
 use Rattle.headers_section.specs.Section.{Field, FillsMap, HasTooManyFields, section}
 
 no_fields : (fields : List Field) → AreFields [] fields → ¬ (FillsMap fields)
-no_fields [] are fills =
-    omega (arith, ap length fills.split, length-append fills.first (fills.next ∷ fills.later))
+no_fields [] are fills = omega (arith, ap length fills.split, length-append fills.first (fills.next ∷ fills.later))
 no_fields (field ∷ fields) are fills = are
 
 -- it doesn't fill a map
@@ -16,16 +15,14 @@ HasTooManyFields-none input none many =
 
 -- its canonical text is empty, and marks nothing
 pub IsCanonicalText-none : (input text : List ℕ) → section input ≡ [] → text ≡ [] → IsCanonicalText input text false
-IsCanonicalText-none input text none empty =
-    record {
-      fields = [];
-      are_fields = subst (λ (lines : List Line). AreFields lines []) (sym none) tt;
-      is_text =
-          record {
-            blocks = [];
-            in_order = refl;
-            each = All-nil (λ (block : List ℕ × Block). IsBlock block.0 (lines_under [] block.0) block.1);
-            text_is = empty;
-            refused_is = refl;
-          };
-    }
+IsCanonicalText-none input text none empty = record {
+  fields = [];
+  are_fields = subst (λ (lines : List Line). AreFields lines []) (sym none) tt;
+  is_text = record {
+    blocks = [];
+    in_order = refl;
+    each = All-nil (λ (block : List ℕ × Block). IsBlock block.0 (lines_under [] block.0) block.1);
+    text_is = empty;
+    refused_is = refl;
+  };
+}

@@ -26,14 +26,13 @@ IsTag-from_read lines tag read = IsTag-from_is_tag tag (by (only_line lines) rea
   where
     by : (line : Option Line) → option_and_then tag_line line ≡ Some tag → is_tag tag ≡ true
     by None e = absurd (cc e)
-    by (Some line) e =
-        elim (cases_Bool (is_tag line)) [
-          | inl t ↦
-              let some : Some line ≡ Some tag = rw t at e in
-              let same : line ≡ tag = cc some in
-              subst (λ (bytes : Line). is_tag bytes ≡ true) same t
-          | inr f ↦ let none : None ≡ Some tag = rw f at e in absurd (cc none)
-        ]
+    by (Some line) e = elim (cases_Bool (is_tag line)) [
+      | inl t ↦
+          let some : Some line ≡ Some tag = rw t at e in
+          let same : line ≡ tag = cc some in
+          subst (λ (bytes : Line). is_tag bytes ≡ true) same t
+      | inr f ↦ let none : None ≡ Some tag = rw f at e in absurd (cc none)
+    ]
 
 -- two tags that were read, and have the same quoted part
 pub Tells-equal : (lines others : List Line) (one other : Line) → reads_tag lines one → reads_tag others other

@@ -6,8 +6,7 @@ use Rattle.c_parts.specs.declared.status.Failure.TheVariants.{Memory, Absent, To
 
 -- a failure says the same of values that are read only if some value of the first kind is
 pub FieldDecodes-fails : {V W : Type 0} (reads : List Line → V → Type 0) (others : List Line → W → Type 0)
-    (text : List ℕ) (failure : Failure)
-    → ((w : W) → others (field_lines text) w → (v : V) × reads (field_lines text) v)
+    (text : List ℕ) (failure : Failure) → ((w : W) → others (field_lines text) w → (v : V) × reads (field_lines text) v)
     → FieldDecodes reads text (Err failure) → FieldDecodes others text (Err failure)
 FieldDecodes-fails reads others text Refused same says =
     (says.0, λ w read. let other = same w read.1 in says.1 other.0 (read.0, other.1))

@@ -11,7 +11,6 @@ module _ (flag : List ℕ) where
 
   pub set_in_lines : (lines : List FieldValue) → list_any in_line lines ≡ is_set flag (entries (lines_of lines))
   set_in_lines [] = refl
-  set_in_lines (line ∷ lines) =
-      ap (λ (b : Bool). is_set flag (line_entries line.bytes) || b) (set_in_lines lines)
+  set_in_lines (line ∷ lines) = ap (λ (b : Bool). is_set flag (line_entries line.bytes) || b) (set_in_lines lines)
       ∙ sym (list_any-append (λ (entry : List ℕ). same_name entry flag) (line_entries line.bytes)
       (entries (lines_of lines)))

@@ -30,13 +30,11 @@ values_read values line value is all one =
 module _ (all : List Line) (values : List FieldValue) (line : Line) (left : List Line)
     (so_far : all ≡ lines_of values ++ line ∷ left) where
   pub lines_read : (value : FieldValue) → value ≡ plain_value line → all ≡ lines_of (values ++ value ∷ []) ++ left
-  lines_read value is =
-      so_far
+  lines_read value is = so_far
       ∙ sym (append_assoc (lines_of values) (line ∷ []) left)
       ∙ ap (λ (read : List Line). read ++ left) (lines_of-push values line value is)
 
   pub some_is_bad : ¬ (IsFieldValue line) → ¬ (All IsFieldValue all)
-  some_is_bad bad valid =
-      bad (All-contains IsFieldValue all line valid
+  some_is_bad bad valid = bad (All-contains IsFieldValue all line valid
       (subst (λ (lines : List Line). Contains lines line) (sym so_far)
       (Contains-append_right (lines_of values) (line ∷ left) line (0, omega arith, refl))))

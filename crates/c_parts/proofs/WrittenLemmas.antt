@@ -38,8 +38,7 @@ module _ (name : List ℕ) where
 -- the block of Bearer credentials, where there are none of Basic
 credentials-bearer : (lines : List Line) → ((v : Authorization UserPass) → ¬ (reads_basic lines v.0)) → (block : Block)
     → IsTypedBlock (λ lines (v : Authorization FieldValue). reads_bearer lines v.0)
-    (λ v. bearer_writes v.0 ∷ []) lines block
-    → IsCredentialsBlock lines block
+    (λ v. bearer_writes v.0 ∷ []) lines block → IsCredentialsBlock lines block
 credentials-bearer lines none None bearer = (λ v. none (record { 0 = v }), λ v. bearer (record { 0 = v }))
 credentials-bearer lines none (Some written) bearer = inr (bearer.0.0, bearer.1, bearer.2)
 
@@ -48,11 +47,9 @@ pub IfOk-bearer : {A E : Type 0} (block_of : A → Block) (found : Result A E) (
     → IfOk found (λ block. IsTypedBlock (λ lines (v : Authorization FieldValue). reads_bearer lines v.0)
     (λ v. bearer_writes v.0 ∷ []) lines (block_of block))
     → IfOk found (λ block. IsCredentialsBlock lines (block_of block))
-IfOk-bearer block_of found lines none is =
-    IfOk-weaker found
+IfOk-bearer block_of found lines none is = IfOk-weaker found
     (λ block. IsTypedBlock (λ lines (v : Authorization FieldValue). reads_bearer lines v.0)
-    (λ v. bearer_writes v.0 ∷ []) lines (block_of block))
-    (λ block. IsCredentialsBlock lines (block_of block))
+    (λ v. bearer_writes v.0 ∷ []) lines (block_of block)) (λ block. IsCredentialsBlock lines (block_of block))
     (λ block. credentials-bearer lines none (block_of block)) is
 
 -- the lines of values that there are
@@ -64,8 +61,7 @@ has_values (value ∷ values) some = omega arith
 pub IfOk-written : {A E : Type 0} (block_of : A → Block) (found : Result A E) (name : List ℕ) (lines : List Line)
     → has_credentials name ≡ true → IfOk found (λ block. IsCredentialsBlock lines (block_of block))
     → IfOk found (λ block. IsWrittenBlock name lines (block_of block))
-IfOk-written block_of found name lines has is =
-    IfOk-weaker found (λ block. IsCredentialsBlock lines (block_of block))
+IfOk-written block_of found name lines has is = IfOk-weaker found (λ block. IsCredentialsBlock lines (block_of block))
     (λ block. IsWrittenBlock name lines (block_of block))
     (λ block credentials. subst (λ (own : Bool). MatchBool own (IsCredentialsBlock lines (block_of block))
     (IsBlock name lines (block_of block))) (sym has) credentials) is

@@ -14,15 +14,13 @@ IsReadAs lines names = All IsFieldName lines × (names ≡ map lowercase lines)
 
 -- a text of which a line is no header value isn't one of names
 pub names_values : (text : List ℕ) → ¬ (All IsFieldValue (field_lines text)) → ¬ (AreNames text)
-names_values text bad names =
-    bad (All-weaker IsFieldName IsFieldValue
+names_values text bad names = bad (All-weaker IsFieldName IsFieldValue
     (λ line name. IsFieldValue-from_visible line (IsVisibleAscii-from_token line name.0)) (field_lines text) names)
 
 -- one line more is a name
 pub names-more : (lines : List FieldValue) (i : ℕ) (line : FieldValue) (names : List (List ℕ)) (name : List ℕ)
-    → i < length lines → line ≡ get_or lines i line → IsReadAs (lines_of (take i lines)) names
-    → IsFieldName line.bytes × (name ≡ lowercase line.bytes)
-    → IsReadAs (lines_of (take (i + 1) lines)) (names ++ name ∷ [])
+    → i < length lines → line ≡ get_or lines i line → IsReadAs (lines_of (take i lines)) names → IsFieldName line.bytes
+    × (name ≡ lowercase line.bytes) → IsReadAs (lines_of (take (i + 1) lines)) (names ++ name ∷ [])
 names-more lines i line names name below is all one =
     let next : take (i + 1) lines ≡ take i lines ++ line ∷ [] =
     take_more lines i line below ∙ ap (λ (v : FieldValue). take i lines ++ v ∷ []) (sym is) in
@@ -52,8 +50,7 @@ names-line lines i line below = let at = line-at lines i line below in omega (ar
 -- what a failure to read the name of one line says of all
 pub names-fails : (lines : List FieldValue) (i : ℕ) (line : FieldValue) (failure : Failure) → i < length lines
     → line ≡ get_or lines i line → IsNameOf line.bytes (Err failure) → IsNamesOf (lines_of lines) (Err failure)
-names-fails lines i line Refused below is none =
-    λ names.
+names-fails lines i line Refused below is none = λ names.
     let at = line-at lines i line below in
     none (subst IsFieldName (at.1 ∙ ap (λ (v : FieldValue). v.bytes) (sym is))
     (All-get_or IsFieldName (lines_of lines) i line.bytes at.0 names))

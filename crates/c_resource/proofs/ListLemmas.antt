@@ -7,16 +7,14 @@ use Rattle.{http_header.specs.FieldValue.FieldValue, headers.specs.Lines.lines_o
 
 -- the value at a place of a list with one more: an old one at its place, or the new one at the end
 at_push : {X : Type 0} (P : ℕ → X → Type 0) (values : List X) (value : X) (start : ℕ)
-    → ((place : ℕ) (x : X) → slice_get values place ≡ Some x → P (start + place) x)
-    → P (start + length values) value
+    → ((place : ℕ) (x : X) → slice_get values place ≡ Some x → P (start + place) x) → P (start + length values) value
     → (place : ℕ) (x : X) → slice_get (values ++ value ∷ []) place ≡ Some x → P (start + place) x
 at_push P [] value start old new zero x is = subst (P (start + 0)) (cc is) new
 at_push P [] value start old new (suc place) x is = absurd (cc is)
 at_push P (first ∷ values) value start old new zero x is = old zero x is
 at_push P (first ∷ values) value start old new (suc place) x is =
     let moved : (n : ℕ) → (start + 1) + n ≡ start + suc n = λ n. omega arith in
-    subst (λ (n : ℕ). P n x) (moved place)
-    (at_push P values value (start + 1)
+    subst (λ (n : ℕ). P n x) (moved place) (at_push P values value (start + 1)
     (λ n y at. subst (λ (m : ℕ). P m y) (sym (moved n)) (old (suc n) y at))
     (subst (λ (m : ℕ). P m value) (sym (moved (length values))) new) place x is)
 
@@ -28,9 +26,7 @@ IsEachAt-push P count values value all new =
     let last : P (0 + length values) value = subst (λ (n : ℕ). P n value) at new in
     record {
       count_is = simp length-append (omega (arith, all.count_is));
-      each =
-          λ place x is. subst (λ (n : ℕ). P n x) (zero-add place)
-          (at_push P values value 0
+      each = λ place x is. subst (λ (n : ℕ). P n x) (zero-add place) (at_push P values value 0
           (λ n y here. subst (λ (m : ℕ). P m y) (sym (zero-add n)) (all.each n y here)) last place x is);
     }
 
@@ -43,8 +39,7 @@ list_any-map p f (x ∷ xs) = ap (λ (b : Bool). p (f x) || b) (list_any-map p f
 -- the bytes of the value at a place
 pub line_at : (values : List FieldValue) (place : ℕ) (value : FieldValue) → place < length values
     → value ≡ get_or values place value → slice_get (lines_of values) place ≡ Some value.bytes
-line_at values place value below is =
-    slice_get-map (λ (v : FieldValue). v.bytes) values place
+line_at values place value below is = slice_get-map (λ (v : FieldValue). v.bytes) values place
     ∙ ap (option_map (λ (v : FieldValue). v.bytes)) (slice_get_read values (length values) place value refl below is)
 
 -- the bytes of one value more
@@ -58,10 +53,9 @@ lines_of-more values place value below is =
 -- what holds of each value holds of that at a place
 pub All-at : {X : Type 0} (P : X → Type 0) (values : List X) (place : ℕ) (value : X) → All P values
     → slice_get values place ≡ Some value → P value
-All-at P values place value all at =
-    elim ((slice_get_cases values place).1) [
-      | inl found ↦
-          let same : get_or values place found.0 ≡ value = cc (found.2, found.3, at) in
-          subst P same (All-get_or P values place found.0 found.1 all)
-      | inr past ↦ absurd (cc (at, past.1))
-    ]
+All-at P values place value all at = elim ((slice_get_cases values place).1) [
+  | inl found ↦
+      let same : get_or values place found.0 ≡ value = cc (found.2, found.3, at) in
+      subst P same (All-get_or P values place found.0 found.1 all)
+  | inr past ↦ absurd (cc (at, past.1))
+]

@@ -17,24 +17,23 @@ option_assoc None b c = refl
 option_assoc (Some n) b c = refl
 
 with_later-assoc : (a b c : Directives) → with_later a (with_later b c) ≡ with_later (with_later a b) c
-with_later-assoc a b c =
-    cc (
-      or_assoc a.no_cache b.no_cache c.no_cache,
-      or_assoc a.no_store b.no_store c.no_store,
-      or_assoc a.only_if_cached b.only_if_cached c.only_if_cached,
-      or_assoc a.must_revalidate b.must_revalidate c.must_revalidate,
-      or_assoc a.proxy_revalidate b.proxy_revalidate c.proxy_revalidate,
-      or_assoc a.must_understand b.must_understand c.must_understand,
-      or_assoc a.public b.public c.public,
-      or_assoc a.private b.private c.private,
-      or_assoc a.immutable b.immutable c.immutable,
-      option_assoc a.max_age b.max_age c.max_age,
-      option_assoc a.s_max_age b.s_max_age c.s_max_age,
-      option_assoc a.max_stale b.max_stale c.max_stale,
-      option_assoc a.min_fresh b.min_fresh c.min_fresh,
-      option_assoc a.stale_while_revalidate b.stale_while_revalidate c.stale_while_revalidate,
-      option_assoc a.stale_if_error b.stale_if_error c.stale_if_error,
-    )
+with_later-assoc a b c = cc (
+  or_assoc a.no_cache b.no_cache c.no_cache,
+  or_assoc a.no_store b.no_store c.no_store,
+  or_assoc a.only_if_cached b.only_if_cached c.only_if_cached,
+  or_assoc a.must_revalidate b.must_revalidate c.must_revalidate,
+  or_assoc a.proxy_revalidate b.proxy_revalidate c.proxy_revalidate,
+  or_assoc a.must_understand b.must_understand c.must_understand,
+  or_assoc a.public b.public c.public,
+  or_assoc a.private b.private c.private,
+  or_assoc a.immutable b.immutable c.immutable,
+  option_assoc a.max_age b.max_age c.max_age,
+  option_assoc a.s_max_age b.s_max_age c.s_max_age,
+  option_assoc a.max_stale b.max_stale c.max_stale,
+  option_assoc a.min_fresh b.min_fresh c.min_fresh,
+  option_assoc a.stale_while_revalidate b.stale_while_revalidate c.stale_while_revalidate,
+  option_assoc a.stale_if_error b.stale_if_error c.stale_if_error,
+)
 
 -- what the members that are left make of what was directed before them
 abbrev pub directed_after : Directives → List Member → Directives
@@ -50,32 +49,30 @@ option_none None = refl
 option_none (Some n) = refl
 
 with_later-nothing : (a : Directives) → with_later a nothing ≡ a
-with_later-nothing a =
-    rw (
-      or_false a.no_cache,
-      or_false a.no_store,
-      or_false a.only_if_cached,
-      or_false a.must_revalidate,
-      or_false a.proxy_revalidate,
-      or_false a.must_understand,
-      or_false a.public,
-      or_false a.private,
-      or_false a.immutable,
-      option_none a.max_age,
-      option_none a.s_max_age,
-      option_none a.max_stale,
-      option_none a.min_fresh,
-      option_none a.stale_while_revalidate,
-      option_none a.stale_if_error,
-    ) refl
+with_later-nothing a = rw (
+  or_false a.no_cache,
+  or_false a.no_store,
+  or_false a.only_if_cached,
+  or_false a.must_revalidate,
+  or_false a.proxy_revalidate,
+  or_false a.must_understand,
+  or_false a.public,
+  or_false a.private,
+  or_false a.immutable,
+  option_none a.max_age,
+  option_none a.s_max_age,
+  option_none a.max_stale,
+  option_none a.min_fresh,
+  option_none a.stale_while_revalidate,
+  option_none a.stale_if_error,
+) refl
 
 pub directed-next : (first : Directives) (directive : DirectiveParts) (member : Member) (left : List Member)
     → said_in member ≡ Some directive
     → directed_after first (member ∷ left) ≡ directed_after (with_later first (directs directive)) left
 directed-next first directive member left e = rw e (by (all_said left))
   where
-    by : (o : Option (List DirectiveParts))
-        → option_map_or (λ directives. with_later first (directed_by directives))
+    by : (o : Option (List DirectiveParts)) → option_map_or (λ directives. with_later first (directed_by directives))
         (option_map (λ rest. directive ∷ rest) o) strictest
         ≡ option_map_or (λ directives. with_later (with_later first (directs directive)) (directed_by directives)) o
         strictest
@@ -107,8 +104,7 @@ malformed_at (member ∷ left) (suc k) y low e n =
 
 -- a malformed field directs as strictly as it can
 pub malformed_is_strictest : (message : LineMap) → IsMalformed message → directed message ≡ strictest
-malformed_is_strictest message a =
-    ap (λ (o : Option (List DirectiveParts)). option_map_or directed_by o strictest)
+malformed_is_strictest message a = ap (λ (o : Option (List DirectiveParts)). option_map_or directed_by o strictest)
     (malformed_at (members message) a.0 a.1 a.2 a.3 a.4)
 
 -- the directives are those of some members, and one of them has the name
@@ -144,8 +140,7 @@ finds_rest name member left h = by (said_in member) refl (all_said left) refl
 finds_at : (name : List ℕ) (all : List Member) (k : ℕ) (y : Member) → k < length all → get_or all k y ≡ y
     → IsSomeAnd (said_in y) (λ directive. IsTrue (is_named name directive)) → FindsNamed name (all_said all)
 finds_at name [] k y low e h = absurd (omega (arith, low))
-finds_at name (member ∷ left) zero y low e h =
-    finds_first name member left
+finds_at name (member ∷ left) zero y low e h = finds_first name member left
     (subst (λ (m : Member). IsSomeAnd (said_in m) (λ directive. IsTrue (is_named name directive))) (sym e) h)
 finds_at name (member ∷ left) (suc k) y low e h =
     finds_rest name member left (finds_at name left k y (omega (arith, low)) e h)
@@ -176,8 +171,7 @@ flag_no_cache (d ∷ ds) found =
     let own : Bool = is_named (codes "no-cache") d in
     elim (cases_Bool own) [
       | inl here ↦
-          or_left (asks_always d) (directed_by ds).no_cache
-          (or_left own (is_argued (codes "must-revalidate") d) here)
+          or_left (asks_always d) (directed_by ds).no_cache (or_left own (is_argued (codes "must-revalidate") d) here)
       | inr other ↦
           or_right (asks_always d) (directed_by ds).no_cache (flag_no_cache ds (rw other at found))
     ]
@@ -221,8 +215,7 @@ says_from name [] directives e found =
     let none : [] ≡ directives = cc e in
     let no : false ≡ true = subst (λ (ds : List DirectiveParts). list_any (is_named name) ds ≡ true) (sym none) found in
     absurd (cc no)
-says_from name (member ∷ left) directives e found =
-    by (said_in member) refl (all_said left) refl (says_from name left)
+says_from name (member ∷ left) directives e found = by (said_in member) refl (all_said left) refl (says_from name left)
   where
     P : Member → Type 0
     P m = IsSomeAnd (said_in m) (λ directive. IsTrue (is_named name directive))
@@ -248,11 +241,10 @@ flag_must_understand : (directives : List DirectiveParts)
     → list_any (is_named (codes "must-understand")) directives ≡ false
     → (directed_by directives).must_understand ≡ false
 flag_must_understand [] none = refl
-flag_must_understand (d ∷ ds) none =
-    elim (cases_Bool (is_named (codes "must-understand") d)) [
-      | inl here ↦ let no : true ≡ false = rw here at none in absurd (cc no)
-      | inr other ↦ rw other (flag_must_understand ds (rw other at none))
-    ]
+flag_must_understand (d ∷ ds) none = elim (cases_Bool (is_named (codes "must-understand") d)) [
+  | inl here ↦ let no : true ≡ false = rw here at none in absurd (cc no)
+  | inr other ↦ rw other (flag_must_understand ds (rw other at none))
+]
 
 pub unsaid_must_understand : (message : LineMap) → ¬ (Says (codes "must-understand") message)
     → (directed message).must_understand ≡ false
@@ -261,8 +253,7 @@ unsaid_must_understand message n = by (all_said (members message)) refl
     by : (o : Option (List DirectiveParts)) → all_said (members message) ≡ o
         → (directed message).must_understand ≡ false
     by None e = rw e refl
-    by (Some directives) e =
-        elim (cases_Bool (list_any (is_named (codes "must-understand")) directives)) [
-          | inl found ↦ absurd (n (says_from (codes "must-understand") (members message) directives e found))
-          | inr none ↦ rw e (flag_must_understand directives none)
-        ]
+    by (Some directives) e = elim (cases_Bool (list_any (is_named (codes "must-understand")) directives)) [
+      | inl found ↦ absurd (n (says_from (codes "must-understand") (members message) directives e found))
+      | inr none ↦ rw e (flag_must_understand directives none)
+    ]

@@ -45,8 +45,7 @@ pub lines-next : (told after : Directives) (line : Line) (lines : List Line)
     → option_map (told_after told) (all_members (line ∷ lines)) ≡ option_map (told_after after) (all_members lines)
 lines-next told after line lines e = by (dictionary (trim line)) e
   where
-    by : (o : Option (List MemberParts)) → option_map (told_after told) o ≡ Some after
-        → option_map (told_after told)
+    by : (o : Option (List MemberParts)) → option_map (told_after told) o ≡ Some after → option_map (told_after told)
         (option_and_then (λ members. option_map (λ others. members ++ others) (all_members lines)) o)
         ≡ option_map (told_after after) (all_members lines)
     by None f = absurd (let h : None ≡ Some after = f in cc)

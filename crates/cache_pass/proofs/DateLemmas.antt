@@ -65,9 +65,8 @@ module _ (settings : Settings) (clocks : ℕ → Option ℕ) (pass : ℕ) where
   after-call : (call : Call) (log : Log) (old new : Kept) → Does settings call old new
       → IsDated log old.removals clocks → ((target : List ℕ) → StoresAt target call → IsCurrent pass target log)
       → IsDated (Calls pass call ∷ log) new.removals clocks
-  after-call (Answered at method status) log old new does d guard =
-      noted (Answered at method status) at log old.removals new.removals (λ target removes. removes.0) does.noted d
-      guard
+  after-call (Answered at method status) log old new does d guard = noted (Answered at method status) at log
+      old.removals new.removals (λ target removes. removes.0) does.noted d guard
   after-call (Removed at) log old new does d guard =
       noted (Removed at) at log old.removals new.removals (λ target removes. removes) does.noted d guard
   after-call call log old new does d guard =
@@ -101,9 +100,8 @@ store-nothing-append (call ∷ a) b some all = (some.0, store-nothing-append a b
 
 removals-store-nothing : (targets : List (List ℕ)) → StoreNothing (removals targets)
 removals-store-nothing [] = tt
-removals-store-nothing (target ∷ targets) =
-    store-nothing-append (removals targets) (Removed target ∷ []) (removals-store-nothing targets)
-    ((λ other none. none), tt)
+removals-store-nothing (target ∷ targets) = store-nothing-append (removals targets) (Removed target ∷ [])
+    (removals-store-nothing targets) ((λ other none. none), tt)
 
 nothing-guarded : (pass : ℕ) (calls : History) (log : Log) → StoreNothing calls → AreGuarded pass calls log
 nothing-guarded pass [] log none = tt
@@ -167,8 +165,7 @@ module _ (pass : ℕ) (old : Pass) (before : Cache) (new : Pass) (after : Cache)
 
 -- a pass that shows the clock has asked just now, or showed it before
 abbrev HasClock : ℕ → ℕ → ℕ → Phase → Phase → Type 0
-HasClock pass noted clock old new =
-    clock_of new ≡ Some clock → ((asks_of pass new ≡ Asks pass ∷ []) × (clock ≡ noted))
+HasClock pass noted clock old new = clock_of new ≡ Some clock → ((asks_of pass new ≡ Asks pass ∷ []) × (clock ≡ noted))
     ⊎ ((asks_of pass new ≡ []) × (clock_of old ≡ Some clock))
 
 -- the same of a step
@@ -205,8 +202,7 @@ module _ (pass : ℕ) (noted clock : ℕ) where
       → HasClockIn deed pass noted clock old.phase new.phase
   step-clock old before new after calls (Begins now given) shows (h, same) =
       rw (h.phase, shows) (first-clock old.phase given now)
-  step-clock old before new after calls (Comes status response now given) shows (h, same) =
-      rw (h.phase, shows)
+  step-clock old before new after calls (Comes status response now given) shows (h, same) = rw (h.phase, shows)
       (next-clock old.phase given h.asked status response now (asking-clock old.phase h.asked h.asking))
   step-clock old before new after calls (Apart call) shows (apart, does, set, kept, same) =
       λ is. inr (refl, ap (λ (p : Pass). clock_of p.phase) (sym kept) ∙ is)
@@ -247,9 +243,8 @@ module _ (pass : ℕ) (deed : Deed) (old new : World) (acts : Acts pass deed old
 
   between : IsDated made new.cache.removals (clocks_of old)
   between = after-calls (settings_of old.cache) (clocks_of old) pass acts.calls old.log (kept_of old.cache)
-      (kept_of new.cache)
-      (step-does (old.passes pass) old.cache (new.passes pass) new.cache acts.calls deed acts.step) d
-      (step-guarded pass (old.passes pass) old.cache (new.passes pass) new.cache old.log (clocks_of old) refl d
+      (kept_of new.cache) (step-does (old.passes pass) old.cache (new.passes pass) new.cache acts.calls deed acts.step)
+      d (step-guarded pass (old.passes pass) old.cache (new.passes pass) new.cache old.log (clocks_of old) refl d
       acts.calls deed acts.step)
 
   abbrev Holds : ℕ → ℕ → Log → Type 0

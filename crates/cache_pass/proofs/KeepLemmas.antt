@@ -23,19 +23,18 @@ module _ (settings later : Settings) (same : later ≡ settings) (key : List ℕ
       → (calls : History) × IsKept settings key came clock old new calls number
   keeps-as number named = (
     Arrived key came Complete ∷ before,
-    subst (λ (s : Settings). IsKept s key came clock old new (Arrived key came Complete ∷ before) number) same
-        (inr (
-          fine,
-          record {
-            before = before;
-            describing = describing;
-            described = described;
-            describes = subst (λ (s : Settings). DoAll s before old described) (sym same) describes;
-            stores = record { step = step; noted = unnoted };
-            named = named;
-            all = refl;
-          },
-        )),
+    subst (λ (s : Settings). IsKept s key came clock old new (Arrived key came Complete ∷ before) number) same (inr (
+      fine,
+      record {
+        before = before;
+        describing = describing;
+        described = described;
+        describes = subst (λ (s : Settings). DoAll s before old described) (sym same) describes;
+        stores = record { step = step; noted = unnoted };
+        named = named;
+        all = refl;
+      },
+    )),
   )
 
   pub keeps : (number : Option ℕ) → ((n : ℕ) → number ≡ Some n → IsNumbered later key came described new (Ok (Some n)))
@@ -48,8 +47,7 @@ module _ (settings later : Settings) (same : later ≡ settings) (key : List ℕ
       → (calls : History) × IsKept settings key came clock old new calls (Ok None)
   keeps-full small left = keeps-as (Ok None) (inr (small, left))
 
-  pub keeps-none : (error : AllocError)
-      → IsToStore later.policy came Complete × FitsAlone later.limits 1 (size_at key came)
-      → IsLeft settings key came described new
-      → (calls : History) × IsKept settings key came clock old new calls (Err error)
+  pub keeps-none : (error : AllocError) → IsToStore later.policy came Complete
+      × FitsAlone later.limits 1 (size_at key came) → IsLeft settings key came described new → (calls : History)
+      × IsKept settings key came clock old new calls (Err error)
   keeps-none error fit left = keeps-as (Err error) (fit.0, fit.1, left)

@@ -120,20 +120,18 @@ module _ (settings : Settings) (request : Request) (now : ℕ) (responses : List
   Found number = (decision : Decision) × (line : Field) × IsFoundBy number decision line × Serves decision
 
   error-found : (found : Lookup) → Answers found → (number : ℕ) → number_on_error found ≡ Some number → Found number
-  error-found (lookup.Serve other field) is number same =
-      subst Found (same_Some other number same) (elim is [
-        | inl by ↦ (decisions.Serve, field_of field, by, inl refl)
-        | inr by ↦ (decisions.ServeStale, field_of field, by, inr (inl refl))
-      ])
+  error-found (lookup.Serve other field) is number same = subst Found (same_Some other number same) (elim is [
+    | inl by ↦ (decisions.Serve, field_of field, by, inl refl)
+    | inr by ↦ (decisions.ServeStale, field_of field, by, inr (inl refl))
+  ])
   error-found (lookup.ServeAndRevalidate other field) is number same =
       subst Found (same_Some other number same) (decisions.ServeAndRevalidate, field_of field, is, inr (inr (inl refl)))
-  error-found (lookup.ValidateOrServe other fields) is number same =
-      subst Found (same_Some other number same) (
-        decisions.RevalidateOrServe,
-        age_of_stored is.found.selected.response now,
-        record { place = is.place; found = is.found; shown = is.shown; age = refl },
-        inr (inr (inr refl)),
-      )
+  error-found (lookup.ValidateOrServe other fields) is number same = subst Found (same_Some other number same) (
+    decisions.RevalidateOrServe,
+    age_of_stored is.found.selected.response now,
+    record { place = is.place; found = is.found; shown = is.shown; age = refl },
+    inr (inr (inr refl)),
+  )
   error-found found is number same = absurd (none-some same)
 
   pub error-reply : (found : Lookup) → Answers found → (number : ℕ) → number_on_error found ≡ Some number

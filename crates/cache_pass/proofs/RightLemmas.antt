@@ -165,8 +165,7 @@ module _ (settings : Settings) (before world : World) (pass : Pass) (new : Pass)
         let named : numbered reply.number (stored_at (key_of pass) world.cache) ≡ Some fresh =
         restored-named settings world.cache (key_of pass) (request_of_pass pass) (lines_at response) made
         (contents_of before.cache.store) reply.number is.restored in
-        let shown : IsReplyTo (request_of_pass pass) now fresh reply =
-        subst (λ (o : Option StoredResponse). IsSomeAnd o
+        let shown : IsReplyTo (request_of_pass pass) now fresh reply = subst (λ (o : Option StoredResponse). IsSomeAnd o
         (λ stored. IsReplyTo (request_of_pass pass) now stored reply)) named is.replies in (
           fresh,
           of-stored settings world ran pass now reply fresh named is.restored.reusable.1.suits shown,
@@ -176,10 +175,9 @@ module _ (settings : Settings) (before world : World) (pass : Pass) (new : Pass)
     once-right : (fresh : StoredResponse) (answer : StoredAnswer)
         → IsLetGo settings.policy (key_of pass) (request_of_pass pass) (lines_at response) made
         (contents_of before.cache.store) (contents_of world.cache.store) fresh
-        → IsStoredAnswer now (request_of_pass pass) fresh true answer
-        → (old : StoredResponse) × IsJustified settings.policy (key_of pass) (calls_of before.log) old
-        × IsCandidate (request_of_pass pass) old × IsFreshened old (lines_at response) made fresh
-        × IsStoredAnswer now (request_of_pass pass) fresh true answer
+        → IsStoredAnswer now (request_of_pass pass) fresh true answer → (old : StoredResponse)
+        × IsJustified settings.policy (key_of pass) (calls_of before.log) old × IsCandidate (request_of_pass pass) old
+        × IsFreshened old (lines_at response) made fresh × IsStoredAnswer now (request_of_pass pass) fresh true answer
     once-right fresh answer is answered =
         let chosen = is.refreshed.selected in (
           chosen.response,

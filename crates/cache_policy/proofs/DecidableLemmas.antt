@@ -53,15 +53,13 @@ decide_Bool false true = inr (λ e. absurd (cc e))
 decide_Bool false false = inl refl
 
 pub decide_lt : (a b : ℕ) → IsDecidable (a < b)
-decide_lt a b =
-    elim (cases_lt a b) [ inl low ↦ inl low | inr high ↦ inr (λ low. absurd (omega (arith, low, high))) ]
+decide_lt a b = elim (cases_lt a b) [ inl low ↦ inl low | inr high ↦ inr (λ low. absurd (omega (arith, low, high))) ]
 
 pub decide_le : (a b : ℕ) → IsDecidable (a ≤ b)
-decide_le a b =
-    elim (cases_lt b a) [
-      | inl low ↦ inr (λ high. absurd (omega (arith, low, high)))
-      | inr high ↦ inl high
-    ]
+decide_le a b = elim (cases_lt b a) [
+  | inl low ↦ inr (λ high. absurd (omega (arith, low, high)))
+  | inr high ↦ inl high
+]
 
 pub decide_IfSome : {X : Type 0} (o : Option X) (P : X → Type 0) → ((x : X) → IsDecidable (P x))
     → IsDecidable (IfSome o P)
@@ -78,11 +76,10 @@ decide_IsSome None = inr (λ h. absurd (cc h))
 decide_IsSome (Some x) = inl refl
 
 pub decide_bytes : (xs ys : List ℕ) → IsDecidable (xs ≡ ys)
-decide_bytes xs ys =
-    elim (cases_Bool (bytes_eq xs ys)) [
-      | inl same ↦ inl ((bytes_eq-Decides xs ys).0 same)
-      | inr other ↦ inr (λ e. let same = (bytes_eq-Decides xs ys).1 e in absurd (cc (same, other)))
-    ]
+decide_bytes xs ys = elim (cases_Bool (bytes_eq xs ys)) [
+  | inl same ↦ inl ((bytes_eq-Decides xs ys).0 same)
+  | inr other ↦ inr (λ e. let same = (bytes_eq-Decides xs ys).1 e in absurd (cc (same, other)))
+]
 
 pub decide_list : {X : Type 0} → ((x y : X) → IsDecidable (x ≡ y)) → (xs ys : List X) → IsDecidable (xs ≡ ys)
 decide_list d [] [] = inl refl
@@ -95,8 +92,7 @@ decide_list {X} d (x ∷ xs) (y ∷ ys) = by (d x y) (decide_list d xs ys)
     by (inl e) (inr n) = inr (λ g. let f : xs ≡ ys = cc g in n f)
     by (inr n) f = inr (λ g. let e : x ≡ y = cc g in n e)
 
-pub decide_All : {X : Type 0} (P : X → Type 0) → ((x : X) → IsDecidable (P x)) → (xs : List X)
-    → IsDecidable (All P xs)
+pub decide_All : {X : Type 0} (P : X → Type 0) → ((x : X) → IsDecidable (P x)) → (xs : List X) → IsDecidable (All P xs)
 decide_All P d [] = inl (All-nil P)
 decide_All {X} P d (x ∷ xs) = by (d x) (decide_All P d xs)
   where

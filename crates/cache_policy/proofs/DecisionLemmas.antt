@@ -101,11 +101,10 @@ module _ (kind : Kind) (asks tells : Directives) (freshness : Freshness) where
   stored_or_not Fetch = inr (λ s. s)
 
   one_answer : (a b : Decision) → Answers kind asks tells freshness a → Answers kind asks tells freshness b → a ≡ b
-  one_answer a b h k =
-      elim (stored_or_not a) [
-        | inl s ↦ one_stored a b s (from_store b k (good_enough a h s)) h k
-        | inr n ↦ one_unstored a b n (λ t. n (from_store a h (good_enough b k t))) h k
-      ]
+  one_answer a b h k = elim (stored_or_not a) [
+    | inl s ↦ one_stored a b s (from_store b k (good_enough a h s)) h k
+    | inr n ↦ one_unstored a b n (λ t. n (from_store a h (good_enough b k t))) h k
+  ]
 
   pub stale_where_let : (a : Decision) → Answers kind asks tells freshness a → IsFromStore a
       → freshness.lifetime ≤ freshness.age
@@ -150,8 +149,7 @@ young_before : (o : Option ℕ) (a b : ℕ) → a ≤ b → IfSome o (λ limit. 
 young_before None a b h k = tt
 young_before (Some limit) a b h k = omega (arith, h, k)
 
-left_before : (o : Option ℕ) (l a b : ℕ) → a ≤ b → IfSome o (λ least. b + least ≤ l)
-    → IfSome o (λ least. a + least ≤ l)
+left_before : (o : Option ℕ) (l a b : ℕ) → a ≤ b → IfSome o (λ least. b + least ≤ l) → IfSome o (λ least. a + least ≤ l)
 left_before None l a b h k = tt
 left_before (Some least) l a b h k = omega (arith, h, k)
 
@@ -261,9 +259,8 @@ module _ (kind : Kind) (stored request : Request) (response : LineMap) where
   one_decision times a b (inr h) (inl k) = absurd (h.0 k.0)
   one_decision times a b (inr h) (inr k) = one_unstored_answer request a b h.1 k.1
 
-  pub one_decision_by : (freshness : Freshness) (a b : Decision)
-      → DecidesBy kind stored request response freshness a → DecidesBy kind stored request response freshness b
-      → a ≡ b
+  pub one_decision_by : (freshness : Freshness) (a b : Decision) → DecidesBy kind stored request response freshness a
+      → DecidesBy kind stored request response freshness b → a ≡ b
   one_decision_by freshness a b (inl h) (inl k) =
       one_answer kind (directed request.fields) (directed response) freshness a b h.1 k.1
   one_decision_by freshness a b (inl h) (inr k) = absurd (k.0 h.0)
@@ -281,7 +278,6 @@ module _ (kind : Kind) (stored request : Request) (response : LineMap) where
   pub fresh_before : (times : Times) (later : ℕ) (a : Decision) → times.now ≤ later
       → Decides kind stored request response times a
       → Decides kind stored request response (record times { now = later }) Serve → a ≡ Serve
-  fresh_before times later a l (inl h) (inl k) =
-      fresh_matched kind request.fields response times later a l h.1 k.1
+  fresh_before times later a l (inl h) (inl k) = fresh_matched kind request.fields response times later a l h.1 k.1
   fresh_before times later a l (inr h) (inl k) = absurd (h.0 k.0)
   fresh_before times later a l h (inr k) = absurd k.1

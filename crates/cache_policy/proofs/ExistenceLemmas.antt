@@ -50,8 +50,7 @@ module _ (kind : Kind) (status received : ℕ) (response : LineMap) where
   guess_or_not (Some n) (inr e) = inr (λ k. k.1 e.1)
 
   pub some_heuristic : (guess : Option ℕ) × HasHeuristic kind status received response guess
-  some_heuristic =
-      by (date_in received (codes "last-modified") response) refl
+  some_heuristic = by (date_in received (codes "last-modified") response) refl
       (decide_both (guess_or_not (some_lifetime kind received response).0 (some_lifetime kind received response).1)
       (decide_either (decide_Bool (is_heuristic status) true) (decide_Bool (directed response).public true)))
     where
@@ -71,8 +70,7 @@ decide_must Shared tells = decide_either (decide_Bool _ _) (decide_either (decid
 
 module _ (kind : Kind) (asks tells : Directives) (freshness : Freshness) where
   decide_servable : IsDecidable (IsServable asks tells freshness)
-  decide_servable =
-      decide_both (decide_both (decide_Bool _ _) (decide_Bool _ _)) (decide_both
+  decide_servable = decide_both (decide_both (decide_Bool _ _) (decide_Bool _ _)) (decide_both
       (decide_IfSome _ (λ limit. freshness.age ≤ limit) (λ limit. decide_le _ _))
       (decide_IfSome _ (λ least. freshness.age + least ≤ freshness.lifetime) (λ least. decide_le _ _)))
 
@@ -83,16 +81,14 @@ module _ (kind : Kind) (asks tells : Directives) (freshness : Freshness) where
   decide_if_within o = decide_IfSome o (λ limit. staleness freshness ≤ limit) (λ limit. decide_le _ _)
 
   decide_meanwhile : IsDecidable (MayServeMeanwhile kind asks tells freshness)
-  decide_meanwhile =
-      decide_three (decide_not (decide_must _ _)) (decide_within tells.stale_while_revalidate)
+  decide_meanwhile = decide_three (decide_not (decide_must _ _)) (decide_within tells.stale_while_revalidate)
       (decide_both (decide_if (decide_IsSome _) (decide_IsSome _)) (decide_if_within asks.max_stale))
 
   decide_stale : IsDecidable (MayServeStale kind asks tells freshness)
   decide_stale = decide_both (decide_not (decide_must kind tells)) (decide_within asks.max_stale)
 
   decide_on_error : IsDecidable (MayServeOnError kind asks tells freshness)
-  decide_on_error =
-      decide_five (decide_both (decide_Bool _ _) (decide_Bool _ _)) (decide_not (decide_must _ _))
+  decide_on_error = decide_five (decide_both (decide_Bool _ _) (decide_Bool _ _)) (decide_not (decide_must _ _))
       (decide_either (decide_IsSome _) (decide_IsSome _)) (decide_if_within asks.stale_if_error)
       (decide_if_within tells.stale_if_error)
 
@@ -114,27 +110,24 @@ module _ (kind : Kind) (asks tells : Directives) (freshness : Freshness) where
   some_served s (inl fresh) m t = (Serve, (s, fresh))
   some_served s (inr stale) (inl meanwhile) t = (ServeAndRevalidate, (s, stale, meanwhile))
   some_served s (inr stale) (inr n) (inl taken) = (ServeStale, (s, stale, n, taken))
-  some_served s (inr stale) (inr n) (inr m) =
-      unserved (λ good. elim good.1 [
-        | inl fresh ↦ stale fresh
-        | inr rest ↦ elim rest [ inl meanwhile ↦ n meanwhile | inr taken ↦ m taken ]
-      ])
+  some_served s (inr stale) (inr n) (inr m) = unserved (λ good. elim good.1 [
+    | inl fresh ↦ stale fresh
+    | inr rest ↦ elim rest [ inl meanwhile ↦ n meanwhile | inr taken ↦ m taken ]
+  ])
 
   pub some_answer : (decision : Decision) × Answers kind asks tells freshness decision
-  some_answer =
-      elim decide_servable [
-        | inl s ↦ some_served s (decide_lt freshness.age freshness.lifetime) decide_meanwhile decide_stale
-        | inr n ↦ unserved (λ good. n good.0)
-      ]
+  some_answer = elim decide_servable [
+    | inl s ↦ some_served s (decide_lt freshness.age freshness.lifetime) decide_meanwhile decide_stale
+    | inr n ↦ unserved (λ good. n good.0)
+  ]
 
 -- ---- which requests a response suits
 
 decide_member : (m n : Member) → IsDecidable (m ≡ n)
-decide_member (Whole s) (Whole t) =
-    elim (decide_bytes s t) [
-      | inl e ↦ inl (ap (λ (u : List ℕ). Whole u) e)
-      | inr n ↦ inr (λ e. let f : s ≡ t = cc e in n f)
-    ]
+decide_member (Whole s) (Whole t) = elim (decide_bytes s t) [
+  | inl e ↦ inl (ap (λ (u : List ℕ). Whole u) e)
+  | inr n ↦ inr (λ e. let f : s ≡ t = cc e in n f)
+]
 decide_member (Whole s) Malformed = inr (λ e. absurd (cc e))
 decide_member Malformed (Whole t) = inr (λ e. absurd (cc e))
 decide_member Malformed Malformed = inl refl
@@ -143,8 +136,7 @@ decide_same : (members others : List Member) → IsDecidable (AreSame members ot
 decide_same members others = decide_both (decide_Bool _ _) (decide_list decide_member members others)
 
 decide_have_same : (pairs : Bool) (lines others : List Line) → IsDecidable (HaveSameMembers pairs lines others)
-decide_have_same pairs lines others =
-    elim (decide_three (decide_lt 0 (length lines)) (decide_lt 0 (length others))
+decide_have_same pairs lines others = elim (decide_three (decide_lt 0 (length lines)) (decide_lt 0 (length others))
     (decide_same (field_members pairs lines) (field_members pairs others))) [
       | inl h ↦ inl (record { present = h.0; also_present = h.1; same = h.2 })
       | inr n ↦ inr (λ h. n (h.present, h.also_present, h.same))
@@ -166,8 +158,7 @@ decide_get_or_head : (method : List ℕ) → IsDecidable (IsGetOrHead method)
 decide_get_or_head method = decide_either (decide_bytes method (codes "GET")) (decide_bytes method (codes "HEAD"))
 
 decide_suits : (stored request : Request) (response : LineMap) → IsDecidable (Suits stored request response)
-decide_suits stored request response =
-    elim (decide_both allowed
+decide_suits stored request response = elim (decide_both allowed
     (decide_All (Agree stored.fields request.fields) (decide_agree stored.fields request.fields)
     (field_members true (response (codes "vary"))))) [
       | inl h ↦ inl (record { method = h.0; fields = h.1 })
@@ -175,44 +166,37 @@ decide_suits stored request response =
     ]
   where
     allowed : IsDecidable (AllowsMethod stored.method request.method)
-    allowed =
-        decide_either (decide_both (decide_bytes stored.method (codes "GET")) (decide_get_or_head request.method))
+    allowed = decide_either (decide_both (decide_bytes stored.method (codes "GET")) (decide_get_or_head request.method))
         (decide_both (decide_bytes stored.method (codes "HEAD")) (decide_bytes request.method (codes "HEAD")))
 
 -- ---- decisions
 
 pub some_unstored : (request : Request) → (decision : Decision) × AnswersUnstored request decision
-some_unstored request =
-    elim (decide_both (decide_Bool (is_among safe_methods request.method) true)
+some_unstored request = elim (decide_both (decide_Bool (is_among safe_methods request.method) true)
     (decide_Bool (directed request.fields).only_if_cached true)) [
       | inl h ↦ (Unavailable, h)
       | inr n ↦ (Fetch, λ safe. by safe n (directed request.fields).only_if_cached refl)
     ]
   where
-    by : IsSafe request.method
-        → (¬ (IsSafe request.method × ((directed request.fields).only_if_cached ≡ true)))
-        → (b : Bool) → (directed request.fields).only_if_cached ≡ b
-        → (directed request.fields).only_if_cached ≡ false
+    by : IsSafe request.method → (¬ (IsSafe request.method × ((directed request.fields).only_if_cached ≡ true)))
+        → (b : Bool) → (directed request.fields).only_if_cached ≡ b → (directed request.fields).only_if_cached ≡ false
     by safe n true e = absurd (n (safe, e))
     by safe n false e = e
 
 module _ (kind : Kind) (stored request : Request) (response : LineMap) where
   pub some_decision_by : (freshness : Freshness)
       → (decision : Decision) × DecidesBy kind stored request response freshness decision
-  some_decision_by freshness =
-      elim (decide_suits stored request response) [
-        | inl suits ↦
-            let a = some_answer kind (directed request.fields) (directed response) freshness in (a.0, inl (suits, a.1))
-        | inr other ↦ let a = some_unstored request in (a.0, inr (other, a.1))
-      ]
+  some_decision_by freshness = elim (decide_suits stored request response) [
+    | inl suits ↦
+        let a = some_answer kind (directed request.fields) (directed response) freshness in (a.0, inl (suits, a.1))
+    | inr other ↦ let a = some_unstored request in (a.0, inr (other, a.1))
+  ]
 
-  pub some_decision : (times : Times)
-      → (decision : Decision) × Decides kind stored request response times decision
-  some_decision times =
-      elim (decide_suits stored request response) [
-        | inl suits ↦
-            let l = some_lifetime kind times.response response in
-            let a = some_answer kind (directed request.fields) (directed response) (freshness_at l.0 times response) in
-            (a.0, inl (suits, record { stated = l.0; lifetime = l.1; answers = a.1 }))
-        | inr other ↦ let a = some_unstored request in (a.0, inr (other, a.1))
-      ]
+  pub some_decision : (times : Times) → (decision : Decision) × Decides kind stored request response times decision
+  some_decision times = elim (decide_suits stored request response) [
+    | inl suits ↦
+        let l = some_lifetime kind times.response response in
+        let a = some_answer kind (directed request.fields) (directed response) (freshness_at l.0 times response) in
+        (a.0, inl (suits, record { stated = l.0; lifetime = l.1; answers = a.1 }))
+    | inr other ↦ let a = some_unstored request in (a.0, inr (other, a.1))
+  ]

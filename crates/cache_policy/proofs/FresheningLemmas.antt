@@ -13,8 +13,7 @@ is_among names name = list_any (λ one. bytes_eq one name) names
 
 -- a field of these names that isn't kept is the update's, another the stored one
 abbrev updated : LineMap → LineMap → List (List ℕ) → LineMap
-updated stored update names name =
-    if is_among names name && not (is_kept update name) then update name else stored name
+updated stored update names name = if is_among names name && not (is_kept update name) then update name else stored name
 
 module _ (update : LineMap) where
   taken-kept : (k : List ℕ) (names : List (List ℕ)) → is_kept update k ≡ true
@@ -27,14 +26,13 @@ module _ (update : LineMap) where
 
   updated-kept : (stored : LineMap) (k : List ℕ) (names : List (List ℕ)) (name : List ℕ) → is_kept update k ≡ true
       → updated stored update names name ≡ updated stored update (k ∷ names) name
-  updated-kept stored k names name kept =
-      elim (cases_Bool (bytes_eq k name)) [
-        | inl same ↦
-            let eq : k ≡ name = (bytes_eq-Decides k name).0 same in
-            let stays : is_kept update name ≡ true = subst (λ (n : List ℕ). is_kept update n ≡ true) eq kept in
-            stored_by stays (is_among names name) ∙ sym (stored_by stays (is_among (k ∷ names) name))
-        | inr other ↦ rw other refl
-      ]
+  updated-kept stored k names name kept = elim (cases_Bool (bytes_eq k name)) [
+    | inl same ↦
+        let eq : k ≡ name = (bytes_eq-Decides k name).0 same in
+        let stays : is_kept update name ≡ true = subst (λ (n : List ℕ). is_kept update n ≡ true) eq kept in
+        stored_by stays (is_among names name) ∙ sym (stored_by stays (is_among (k ∷ names) name))
+    | inr other ↦ rw other refl
+  ]
     where
       stored_by : is_kept update name ≡ true → (b : Bool)
           → (if b && not (is_kept update name) then update name else stored name) ≡ stored name
@@ -43,14 +41,13 @@ module _ (update : LineMap) where
 
   updated-more : (stored : LineMap) (k : List ℕ) (names : List (List ℕ)) (name : List ℕ) → is_kept update k ≡ false
       → updated (set stored (k, update k)) update names name ≡ updated stored update (k ∷ names) name
-  updated-more stored k names name changes =
-      elim (cases_Bool (bytes_eq k name)) [
-        | inl same ↦
-            let eq : k ≡ name = (bytes_eq-Decides k name).0 same in
-            let changed : is_kept update name ≡ false = subst (λ (n : List ℕ). is_kept update n ≡ false) eq changes in
-            rw same (taken_by (ap update eq) changed (is_among names name))
-        | inr other ↦ rw other refl
-      ]
+  updated-more stored k names name changes = elim (cases_Bool (bytes_eq k name)) [
+    | inl same ↦
+        let eq : k ≡ name = (bytes_eq-Decides k name).0 same in
+        let changed : is_kept update name ≡ false = subst (λ (n : List ℕ). is_kept update n ≡ false) eq changes in
+        rw same (taken_by (ap update eq) changed (is_among names name))
+    | inr other ↦ rw other refl
+  ]
     where
       taken_by : update k ≡ update name → is_kept update name ≡ false → (b : Bool)
           → (if b && not (is_kept update name) then update name else update k)
@@ -61,15 +58,14 @@ module _ (update : LineMap) where
   set_all-taken : (names : List (List ℕ)) (stored : LineMap) (name : List ℕ)
       → set_all stored (taken update names) name ≡ updated stored update names name
   set_all-taken [] stored name = refl
-  set_all-taken (k ∷ names) stored name =
-      elim (cases_Bool (is_kept update k)) [
-        | inl kept ↦
-            ap (λ fields. set_all stored fields name) (taken-kept k names kept)
-            ∙ set_all-taken names stored name ∙ updated-kept stored k names name kept
-        | inr changes ↦
-            ap (λ fields. set_all stored fields name) (taken-more k names changes)
-            ∙ set_all-taken names (set stored (k, update k)) name ∙ updated-more stored k names name changes
-      ]
+  set_all-taken (k ∷ names) stored name = elim (cases_Bool (is_kept update k)) [
+    | inl kept ↦
+        ap (λ fields. set_all stored fields name) (taken-kept k names kept)
+        ∙ set_all-taken names stored name ∙ updated-kept stored k names name kept
+    | inr changes ↦
+        ap (λ fields. set_all stored fields name) (taken-more k names changes)
+        ∙ set_all-taken names (set stored (k, update k)) name ∙ updated-more stored k names name changes
+  ]
 
 abbrev value_line : FieldValue → Line
 value_line value = value.bytes
@@ -78,18 +74,16 @@ value_line value = value.bytes
 has-lines : (m : Entries FieldValue) (name : List ℕ) → All (λ e. 0 < length e.1) m
     → is_among (keys m) name ≡ nat_lt 0 (length (lines_at m name))
 has-lines [] name filled = refl
-has-lines (entry ∷ m) name filled =
-    elim (cases_Bool (bytes_eq entry.0 name)) [
-      | inl here ↦
-          let some = All-head (λ e. 0 < length e.1) entry m filled in
-          rw here (sym (lt-ltb 0 (length (lines_of entry.1)) (omega (arith, some, length-map entry.1 value_line))))
-      | inr other ↦ rw other (has-lines m name (All-tail (λ e. 0 < length e.1) entry m filled))
-    ]
+has-lines (entry ∷ m) name filled = elim (cases_Bool (bytes_eq entry.0 name)) [
+  | inl here ↦
+      let some = All-head (λ e. 0 < length e.1) entry m filled in
+      rw here (sym (lt-ltb 0 (length (lines_of entry.1)) (omega (arith, some, length-map entry.1 value_line))))
+  | inr other ↦ rw other (has-lines m name (All-tail (λ e. 0 < length e.1) entry m filled))
+]
 
 -- so the fields of an update freshen
 pub freshens : (stored : LineMap) (update : Entries FieldValue) → IsHeaderMap update → (name : List ℕ)
     → set_all stored (freshening_fields update) name ≡ freshened stored (lines_at update) name
-freshens stored update valid name =
-    set_all-taken (lines_at update) (keys update) stored name ∙ ap
+freshens stored update valid name = set_all-taken (lines_at update) (keys update) stored name ∙ ap
     (λ (b : Bool). if b && not (is_kept (lines_at update) name) then lines_at update name else stored name)
     (has-lines _ _ valid.filled)

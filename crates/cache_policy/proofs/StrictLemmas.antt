@@ -116,15 +116,13 @@ module _ (kind : Kind) (stored request : Request) (response : LineMap) (freshnes
       → ¬ (MayComeFromStore decision)
   malformed_is_validated m h =
       let strict : directed response ≡ strictest = malformed_is_strictest response m in
-      decided_not_served
-      (inr (subst (λ (d : Directives). d.no_cache ≡ true) (sym strict) refl)) h
+      decided_not_served (inr (subst (λ (d : Directives). d.no_cache ≡ true) (sym strict) refl)) h
 
   pub malformed_request_is_validated : IsMalformed request.fields
       → DecidesBy kind stored request response freshness decision → ¬ (MayComeFromStore decision)
   malformed_request_is_validated m h =
       let strict : directed request.fields ≡ strictest = malformed_is_strictest request.fields m in
-      decided_not_served
-      (inl (subst (λ (d : Directives). d.no_cache ≡ true) (sym strict) refl)) h
+      decided_not_served (inl (subst (λ (d : Directives). d.no_cache ≡ true) (sym strict) refl)) h
 
   pub no_cache : Says (codes "no-cache") request.fields ⊎ Says (codes "no-cache") response
       → DecidesBy kind stored request response freshness decision → ¬ (MayComeFromStore decision)
@@ -164,8 +162,7 @@ head_answers_no_get stored method e f (inr h) = let g = h.1 in absurd (cc (f, g)
 
 module _ (kind : Kind) (stored request : Request) (response : LineMap) (freshness : Freshness)
     (decision : Decision) where
-  pub written : ¬ (IsSafe request.method) → DecidesBy kind stored request response freshness decision
-      → decision ≡ Fetch
+  pub written : ¬ (IsSafe request.method) → DecidesBy kind stored request response freshness decision → decision ≡ Fetch
   written n (inl h) = absurd (n (allowed_is_safe stored.method request.method h.0.method))
   written n (inr h) = written_unstored request decision n h.1
 

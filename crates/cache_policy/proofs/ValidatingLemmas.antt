@@ -10,16 +10,15 @@ module _ {V A : Type 0} (value_of : List Line → Option A) (kept : V → A) (te
   pub canonical-lines : (from lines : List Line)
       → IsCanonical (λ read v. value_of read ≡ Some (kept v)) (λ v. text (kept v) ∷ []) from lines
       → lines ≡ lines_sent text (value_of from)
-  canonical-lines from lines h =
-      elim h [
-        | inl some ↦ some.2 ∙ sym (ap (lines_sent text) some.1)
-        | inr nothing ↦ elim nothing.0 [
-          | inl empty ↦
-              nothing.1 ∙ sym (ap (λ (read : List Line). lines_sent text (value_of read)) empty
-              ∙ ap (lines_sent text) start)
-          | inr none ↦ nothing.1 ∙ sym (ap (lines_sent text) (absent none (value_of from) refl))
-        ]
-      ]
+  canonical-lines from lines h = elim h [
+    | inl some ↦ some.2 ∙ sym (ap (lines_sent text) some.1)
+    | inr nothing ↦ elim nothing.0 [
+      | inl empty ↦
+          nothing.1 ∙ sym (ap (λ (read : List Line). lines_sent text (value_of read)) empty
+          ∙ ap (lines_sent text) start)
+      | inr none ↦ nothing.1 ∙ sym (ap (lines_sent text) (absent none (value_of from) refl))
+    ]
+  ]
     where
       absent : ((v : V) → ¬ (value_of from ≡ Some (kept v))) → (read : Option A) → value_of from ≡ read
           → value_of from ≡ None
@@ -28,11 +27,9 @@ module _ {V A : Type 0} (value_of : List Line → Option A) (kept : V → A) (te
 
 pub conditional : (received : ℕ) (request response : LineMap)
     → IsConditional received request response (set_all request (validation_fields received response))
-conditional received request response =
-    record {
-      tag = refl;
-      date = refl;
-      others = λ name tag date.
-          set-other (set request (codes "if-none-match", tag_lines response)) _ name date
-          ∙ set-other request _ name tag;
-    }
+conditional received request response = record {
+  tag = refl;
+  date = refl;
+  others = λ name tag date. set-other (set request (codes "if-none-match", tag_lines response)) _ name date
+      ∙ set-other request _ name tag;
+}

@@ -10,8 +10,7 @@ use Rattle.cache_rules.specs.declared.{freshening.Exchange.Exchange, stored.Stor
 -- the fields that say how old a response is, and others after them
 pub aging_first : (received : ℕ) (aging later all : List Encoded) → fields_of aging ≡ aging_fields received
     → all ≡ aging ++ later → fields_of all ≡ aging_fields received ++ fields_of later
-aging_first received aging later all is appended =
-    ap fields_of appended ∙ map-append field_of aging later
+aging_first received aging later all is appended = ap fields_of appended ∙ map-append field_of aging later
     ∙ ap (λ (first : List Field). first ++ fields_of later) is
 
 -- what they leave of a stored response
@@ -26,18 +25,17 @@ pub freshened_by : (old new : StoredResponse) (update : Entries FieldValue) (fie
     → IsHeaderMap update → fields ≡ freshening_fields update
     → IsRenewed old (set_all (aged_anew exchange.received (fields_of_stored old)) fields) exchange new
     → IsFreshened old (lines_at update) exchange new
-freshened_by old new update fields exchange valid is h =
-    record {
-      method = h.method;
-      request = h.request;
-      status = h.status;
-      content = h.content;
-      requested = h.requested;
-      received = h.received;
-      fields = λ name. h.fields name ∙ ap
-          (λ (fs : List Field). set_all (aged_anew exchange.received (fields_of_stored old)) fs name) is ∙ freshens _ _
-          valid name;
-    }
+freshened_by old new update fields exchange valid is h = record {
+  method = h.method;
+  request = h.request;
+  status = h.status;
+  content = h.content;
+  requested = h.requested;
+  received = h.received;
+  fields = λ name. h.fields name ∙ ap
+      (λ (fs : List Field). set_all (aged_anew exchange.received (fields_of_stored old)) fs name) is ∙ freshens _ _
+      valid name;
+}
 
 -- where there are field lines, the field says as before exactly if they are the stored ones
 pub as_before : (b : Bool) (own other : List Line) → HasLine other → MatchBool b (own ≡ other) (own ≢ other)

@@ -13,11 +13,10 @@ use Rattle.cache_rules.specs.declared.identifying.Found.{Found, TheVariants.{Not
 use Rattle.cache_rules.{specs.declared.stored.StoredResponse.StoredResponse, proofs.SelectionLemmas.selects_one}
 
 only_member : (place other : ℕ) → Contains (place ∷ []) other → place ≡ other
-only_member place other among =
-    elim (Contains-push_cases [] place other among) [
-      | inl before ↦ absurd (omega (arith, before.1))
-      | inr same ↦ same
-    ]
+only_member place other among = elim (Contains-push_cases [] place other among) [
+  | inl before ↦ absurd (omega (arith, before.1))
+  | inr same ↦ same
+]
 
 module _ (Is : StoredResponse → Type 0) (all : List StoredResponse) where
   -- ---- all
@@ -28,11 +27,10 @@ module _ (Is : StoredResponse → Type 0) (all : List StoredResponse) where
     pub ascending : AllPairs (λ (a b : ℕ). a < b) places
 
   pub none_below : AreBelow 0 []
-  none_below =
-      record {
-        each = λ place. ((λ h. absurd (omega (arith, h.1))), (λ h. absurd (omega (arith, h.0))));
-        ascending = λ i j d low high. absurd (omega (arith, low, high));
-      }
+  none_below = record {
+    each = λ place. ((λ h. absurd (omega (arith, h.1))), (λ h. absurd (omega (arith, h.0))));
+    ascending = λ i j d low high. absurd (omega (arith, low, high));
+  }
 
   module _ (n : ℕ) (x : StoredResponse) (within : n < length all) (here : x ≡ get_or all n x) where
     at : slice_get all n ≡ Some x
@@ -40,52 +38,49 @@ module _ (Is : StoredResponse → Type 0) (all : List StoredResponse) where
 
     -- a place below n + 1 is below n, or it is that of this response
     cases : (place : ℕ) → place < n + 1 → (place < n) ⊎ (place ≡ n)
-    cases place low =
-        elim (cases_order place n) [
-          | inl same ↦ inr same
-          | inr apart ↦
-              elim apart [
-                | inl lower ↦ inl lower
-                | inr higher ↦ absurd (omega (arith, low, higher))
-              ]
-        ]
+    cases place low = elim (cases_order place n) [
+      | inl same ↦ inr same
+      | inr apart ↦
+          elim apart [
+            | inl lower ↦ inl lower
+            | inr higher ↦ absurd (omega (arith, low, higher))
+          ]
+    ]
 
     is_here : IsAt Is all n → Is x
     is_here h = subst Is (same_Some h.0 x (sym h.1 ∙ at)) h.2
 
     pub more_below : (places : List ℕ) → Is x → AreBelow n places → AreBelow (n + 1) (places ++ n ∷ [])
-    more_below places is h =
-        record {
-          each = λ place. (
-            (λ among. elim (Contains-push_cases places n place among) [
-              | inl before ↦
-                  let old : (place < n) × IsAt Is all place = (h.each place).0 before in
-                  (omega (arith, old.0), old.1)
-              | inr same ↦ (omega (arith, same), subst (IsAt Is all) same (x, at, is))
-            ]),
-            (λ found. elim (cases place found.0) [
-              | inl lower ↦ Contains-append_left places (n ∷ []) place ((h.each place).1 (lower, found.1))
-              | inr same ↦ subst (Contains (places ++ n ∷ [])) (sym same) (Contains-push places n)
-            ]),
-          );
-          ascending = all_pairs_push (λ (a b : ℕ). a < b) places n h.ascending
-              (λ k d low. ((h.each (get_or places k d)).0 (Contains-get_or places k d low)).0);
-        }
+    more_below places is h = record {
+      each = λ place. (
+        (λ among. elim (Contains-push_cases places n place among) [
+          | inl before ↦
+              let old : (place < n) × IsAt Is all place = (h.each place).0 before in
+              (omega (arith, old.0), old.1)
+          | inr same ↦ (omega (arith, same), subst (IsAt Is all) same (x, at, is))
+        ]),
+        (λ found. elim (cases place found.0) [
+          | inl lower ↦ Contains-append_left places (n ∷ []) place ((h.each place).1 (lower, found.1))
+          | inr same ↦ subst (Contains (places ++ n ∷ [])) (sym same) (Contains-push places n)
+        ]),
+      );
+      ascending = all_pairs_push (λ (a b : ℕ). a < b) places n h.ascending
+          (λ k d low. ((h.each (get_or places k d)).0 (Contains-get_or places k d low)).0);
+    }
 
     pub same_below : (places : List ℕ) → ¬ (Is x) → AreBelow n places → AreBelow (n + 1) places
-    same_below places not h =
-        record {
-          each = λ place. (
-            (λ among.
-                let old : (place < n) × IsAt Is all place = (h.each place).0 among in
-                (omega (arith, old.0), old.1)),
-            (λ found. elim (cases place found.0) [
-              | inl lower ↦ (h.each place).1 (lower, found.1)
-              | inr same ↦ absurd (not (is_here (subst (IsAt Is all) same found.1)))
-            ]),
-          );
-          ascending = h.ascending;
-        }
+    same_below places not h = record {
+      each = λ place. (
+        (λ among.
+            let old : (place < n) × IsAt Is all place = (h.each place).0 among in
+            (omega (arith, old.0), old.1)),
+        (λ found. elim (cases place found.0) [
+          | inl lower ↦ (h.each place).1 (lower, found.1)
+          | inr same ↦ absurd (not (is_here (subst (IsAt Is all) same found.1)))
+        ]),
+      );
+      ascending = h.ascending;
+    }
 
   pub below_in : (n : ℕ) (x : StoredResponse) (places next : List ℕ) → n < length all → x ≡ get_or all n x → Is x
       → next ≡ places ++ n ∷ [] → AreBelow n places → AreBelow (n + 1) next
@@ -97,14 +92,13 @@ module _ (Is : StoredResponse → Type 0) (all : List StoredResponse) where
 
   pub all_below : (n : ℕ) (places : List ℕ) → length all ≤ n → n ≤ length all → AreBelow n places
       → ArePlaces (IsAt Is all) places
-  all_below n places high low h =
-      record {
-        each = λ place. (
-          (λ among. ((h.each place).0 among).1),
-          (λ found. (h.each place).1 (omega (arith, low, high, slice_get_within all place found.0 found.1), found)),
-        );
-        ascending = h.ascending;
-      }
+  all_below n places high low h = record {
+    each = λ place. (
+      (λ among. ((h.each place).0 among).1),
+      (λ found. (h.each place).1 (omega (arith, low, high, slice_get_within all place found.0 found.1), found)),
+    );
+    ascending = h.ascending;
+  }
 
   -- ---- the only one
 
@@ -125,19 +119,17 @@ module _ (Is : StoredResponse → Type 0) (all : List StoredResponse) where
         | inr same ↦ same
       ]),
     )
-    found_more (One place) is h =
-        λ k only.
+    found_more (One place) is h = λ k only.
         let one : place ≡ k = only place h.1.0 h.1.1 h.1.2 in
         let two : n ≡ k = only n x (at n x within here) is in
         absurd (omega (arith, one, two, h.0))
     found_more Several is h = h
 
     pub found_same : (found : Found) → ¬ (Is x) → FoundBelow n found → FoundBelow (n + 1) found
-    found_same Nothing not none =
-        λ k other low found has. elim (cases n x within here k low) [
-          | inl lower ↦ none k other lower found has
-          | inr same ↦ not (is_here n x within here (subst (IsAt Is all) same (other, found, has)))
-        ]
+    found_same Nothing not none = λ k other low found has. elim (cases n x within here k low) [
+      | inl lower ↦ none k other lower found has
+      | inr same ↦ not (is_here n x within here (subst (IsAt Is all) same (other, found, has)))
+    ]
     found_same (One place) not h = (
       omega (arith, h.0),
       h.1,
@@ -196,26 +188,24 @@ module _ (request : Request) (update : LineMap) (all : List StoredResponse) wher
   -- by a strong validator all that the 304 is about
   pub all_identified : HasStrongTag update → (places : List ℕ) → ArePlaces (IsAt Sought all) places
       → ArePlaces Identified places
-  all_identified strong places h =
-      record {
-        each = λ place. (
-          (λ among. record {
-            sought = (h.each place).0 among;
-            weak = λ not. absurd (not strong);
-            none = λ not. absurd (not (strong_is_validator update strong));
-          }),
-          (λ identified. (h.each place).1 identified.sought),
-        );
-        ascending = h.ascending;
-      }
-
-  pub strong_identified : HasStrongTag update → (place : ℕ) → IsAt Sought all place → Identified place
-  strong_identified strong place h =
-      record {
-        sought = h;
+  all_identified strong places h = record {
+    each = λ place. (
+      (λ among. record {
+        sought = (h.each place).0 among;
         weak = λ not. absurd (not strong);
         none = λ not. absurd (not (strong_is_validator update strong));
-      }
+      }),
+      (λ identified. (h.each place).1 identified.sought),
+    );
+    ascending = h.ascending;
+  }
+
+  pub strong_identified : HasStrongTag update → (place : ℕ) → IsAt Sought all place → Identified place
+  strong_identified strong place h = record {
+    sought = h;
+    weak = λ not. absurd (not strong);
+    none = λ not. absurd (not (strong_is_validator update strong));
+  }
 
   -- without a validator the only one
   pub only_identified : ¬ (HasValidator update) → (place : ℕ) → IsOnlyOne (IsCandidate request) all (Some place)
@@ -229,16 +219,13 @@ module _ (request : Request) (update : LineMap) (all : List StoredResponse) wher
           weak = λ _ some. absurd (none some);
           none = λ _. subst (IsOnly (IsCandidate request) all) (sym same) only.1;
         },
-        (λ other identified.
-            only.1 other identified.sought.0 identified.sought.1 identified.sought.2.0 ∙ sym same),
+        (λ other identified. only.1 other identified.sought.0 identified.sought.1 identified.sought.2.0 ∙ sym same),
       )
 
   -- there is no only one
-  pub none_identified : ¬ (HasValidator update)
-      → IsOnlyOne (IsCandidate request) all None → IsOneAt Identified None
-  none_identified none nobody =
-      λ place identified.
-      nobody place (identified.sought.0, identified.sought.1, identified.sought.2.0) (identified.none none)
+  pub none_identified : ¬ (HasValidator update) → IsOnlyOne (IsCandidate request) all None → IsOneAt Identified None
+  none_identified none nobody = λ place identified. nobody place
+      (identified.sought.0, identified.sought.1, identified.sought.2.0) (identified.none none)
 
   -- ---- the one that answers
 
@@ -256,9 +243,8 @@ module _ (request : Request) (update : LineMap) (all : List StoredResponse) wher
   answered_alone none (Some place) one =
       let own = one.0.sought.0 in
       let only = one.0.none none in
-      let is_own : (k : ℕ) (other : StoredResponse) → slice_get all k ≡ Some other → Sought other → other ≡ own =
-      λ k other at is. same_Some other own
-      (sym at ∙ ap (slice_get all) (only k other at is.0) ∙ one.0.sought.1) in (
+      let is_own : (k : ℕ) (other : StoredResponse) → slice_get all k ≡ Some other → Sought other → other ≡ own = λ k
+      other at is. same_Some other own (sym at ∙ ap (slice_get all) (only k other at is.0) ∙ one.0.sought.1) in (
         one.0,
         record {
           response = own;
@@ -276,8 +262,7 @@ module _ (request : Request) (update : LineMap) (all : List StoredResponse) wher
   answer_alone weak (Some place) answers = (
     answers.0,
     (λ other identified.
-        let none : other ≢ place → ¬ (HasValidator update) = λ apart some.
-        apart (same_Some other place
+        let none : other ≢ place → ¬ (HasValidator update) = λ apart some. apart (same_Some other place
         (selects_one Sought all (Some other) (Some place) (identified.weak weak some) answers.1)) in
         let twice : ¬ (other ≢ place) = λ apart.
         apart (answers.0.none (none apart) other identified.sought.0 identified.sought.1 identified.sought.2.0) in
@@ -292,18 +277,16 @@ module _ (request : Request) (update : LineMap) (all : List StoredResponse) wher
 
   -- what is one is all
   pub one_place : (place : ℕ) → IsOneAt Identified (Some place) → ArePlaces Identified (place ∷ [])
-  one_place place h =
-      record {
-        each = λ other. (
-          (λ among. subst Identified (only_member place other among) h.0),
-          (λ identified. subst (Contains (place ∷ [])) (sym (h.1 other identified)) (Contains-push [] place)),
-        );
-        ascending = λ i j d low high. absurd (omega (arith, low, high));
-      }
+  one_place place h = record {
+    each = λ other. (
+      (λ among. subst Identified (only_member place other among) h.0),
+      (λ identified. subst (Contains (place ∷ [])) (sym (h.1 other identified)) (Contains-push [] place)),
+    );
+    ascending = λ i j d low high. absurd (omega (arith, low, high));
+  }
 
   pub no_place : IsOneAt Identified None → ArePlaces Identified []
-  no_place none =
-      record {
-        each = λ other. ((λ among. absurd (omega (arith, among.1))), (λ identified. absurd (none other identified)));
-        ascending = λ i j d low high. absurd (omega (arith, low, high));
-      }
+  no_place none = record {
+    each = λ other. ((λ among. absurd (omega (arith, among.1))), (λ identified. absurd (none other identified)));
+    ascending = λ i j d low high. absurd (omega (arith, low, high));
+  }

@@ -26,81 +26,75 @@ module _ (Is : StoredResponse → Type 0) (all : List StoredResponse) where
     -- what is at a place below n + 1 is below n, or is this response
     cases : (k : ℕ) (other : StoredResponse) → k < n + 1 → slice_get all k ≡ Some other
         → (k < n) ⊎ ((k ≡ n) × (other ≡ x))
-    cases k other low here =
-        elim (cases_order k n) [
-          | inl same ↦
-              inr (same, same_Some other x (sym here ∙ ap (λ (j : ℕ). slice_get all j) same ∙ at))
-          | inr apart ↦
-              elim apart [
-                | inl lower ↦ inl lower
-                | inr higher ↦ absurd (omega (arith, low, higher))
-              ]
-        ]
+    cases k other low here = elim (cases_order k n) [
+      | inl same ↦
+          inr (same, same_Some other x (sym here ∙ ap (λ (j : ℕ). slice_get all j) same ∙ at))
+      | inr apart ↦
+          elim apart [
+            | inl lower ↦ inl lower
+            | inr higher ↦ absurd (omega (arith, low, higher))
+          ]
+    ]
 
     stays : (newest : Newest) → made_at x < made_at newest.response.now → Leads n newest → Leads (n + 1) newest
-    stays newest less h =
-        record {
-          within = omega (arith, h.within);
-          at = h.at;
-          is = h.is;
-          newest = λ k other low here has. elim (cases k other low here) [
-            | inl lower ↦ h.newest k other lower here has
-            | inr same ↦ omega (arith, ap made_at same.1, less)
-          ];
-          last = λ k other low here has later. elim (cases k other low here) [
-            | inl lower ↦ h.last k other lower here has later
-            | inr same ↦ omega (arith, ap made_at same.1, less)
-          ];
-        }
+    stays newest less h = record {
+      within = omega (arith, h.within);
+      at = h.at;
+      is = h.is;
+      newest = λ k other low here has. elim (cases k other low here) [
+        | inl lower ↦ h.newest k other lower here has
+        | inr same ↦ omega (arith, ap made_at same.1, less)
+      ];
+      last = λ k other low here has later. elim (cases k other low here) [
+        | inl lower ↦ h.last k other lower here has later
+        | inr same ↦ omega (arith, ap made_at same.1, less)
+      ];
+    }
 
     pub none_more : (newest : Option Newest) → ¬ (Is x) → LeadsOf n newest → LeadsOf (n + 1) newest
-    none_more None not none =
-        λ k other low here has. elim (cases k other low here) [
-          | inl lower ↦ none k other lower here has
-          | inr same ↦ not (subst Is same.1 has)
-        ]
-    none_more (Some newest) not h =
-        record {
-          within = omega (arith, h.within);
-          at = h.at;
-          is = h.is;
-          newest = λ k other low here has. elim (cases k other low here) [
-            | inl lower ↦ h.newest k other lower here has
-            | inr same ↦ absurd (not (subst Is same.1 has))
-          ];
-          last = λ k other low here has later. elim (cases k other low here) [
-            | inl lower ↦ h.last k other lower here has later
-            | inr same ↦ absurd (not (subst Is same.1 has))
-          ];
-        }
+    none_more None not none = λ k other low here has. elim (cases k other low here) [
+      | inl lower ↦ none k other lower here has
+      | inr same ↦ not (subst Is same.1 has)
+    ]
+    none_more (Some newest) not h = record {
+      within = omega (arith, h.within);
+      at = h.at;
+      is = h.is;
+      newest = λ k other low here has. elim (cases k other low here) [
+        | inl lower ↦ h.newest k other lower here has
+        | inr same ↦ absurd (not (subst Is same.1 has))
+      ];
+      last = λ k other low here has later. elim (cases k other low here) [
+        | inl lower ↦ h.last k other lower here has later
+        | inr same ↦ absurd (not (subst Is same.1 has))
+      ];
+    }
 
   module _ (n : ℕ) (x : Bor StoredResponse) (at : slice_get all n ≡ Some x.now) where
     alone : Is x.now → LeadsOf n None → Leads (n + 1) (record { place = n; response = x })
-    alone is none =
-        record {
-          within = omega arith;
-          at = at;
-          is = is;
-          newest = λ k other low here has. elim (cases n x.now at k other low here) [
-            | inl lower ↦ absurd (none k other lower here has)
-            | inr same ↦ omega (arith, ap made_at same.1)
-          ];
-          last = λ k other low here has later. absurd (omega (arith, low, later));
-        }
+    alone is none = record {
+      within = omega arith;
+      at = at;
+      is = is;
+      newest = λ k other low here has. elim (cases n x.now at k other low here) [
+        | inl lower ↦ absurd (none k other lower here has)
+        | inr same ↦ omega (arith, ap made_at same.1)
+      ];
+      last = λ k other low here has later. absurd (omega (arith, low, later));
+    }
 
     takes_over : (newest : Newest) → Is x.now → made_at newest.response.now ≤ made_at x.now → Leads n newest
         → Leads (n + 1) (record { place = n; response = x })
-    takes_over newest is more h =
-        record {
-          within = omega arith;
-          at = at;
-          is = is;
-          newest = λ k other low here has. elim (cases n x.now at k other low here) [
-            | inl lower ↦ omega (arith, h.newest k other lower here has, more)
-            | inr same ↦ omega (arith, ap made_at same.1)
-          ];
-          last = λ k other low here has later. absurd (omega (arith, low, later));
-        }
+    takes_over newest is more h = record {
+      within = omega arith;
+      at = at;
+      is = is;
+      newest = λ k other low here has. elim (cases n x.now at k other low here) [
+        | inl lower ↦ omega (arith, h.newest k other lower here has, more)
+        | inr same ↦ omega (arith, ap made_at same.1)
+      ];
+      last = λ k other low here has later. absurd (omega (arith, low, later));
+    }
 
     pub one_more : (newest : Option Newest) → Is x.now → LeadsOf n newest → LeadsOf (n + 1) (renewed newest n x)
     one_more None is h = alone is h
@@ -115,14 +109,13 @@ module _ (Is : StoredResponse → Type 0) (all : List StoredResponse) where
   pub leader_is_selected : (newest : Option Newest) → LeadsOf (length all) newest
       → IsSelected Is all (option_map (λ (n : Newest). n.place) newest)
   leader_is_selected None none = λ k other here. none k other (slice_get_within all k other here) here
-  leader_is_selected (Some newest) h =
-      record {
-        response = newest.response.now;
-        at = h.at;
-        is = h.is;
-        newest = λ k other here has. h.newest k other (slice_get_within all k other here) here has;
-        last = λ k other here has later. h.last k other (slice_get_within all k other here) here has later;
-      }
+  leader_is_selected (Some newest) h = record {
+    response = newest.response.now;
+    at = h.at;
+    is = h.is;
+    newest = λ k other here has. h.newest k other (slice_get_within all k other here) here has;
+    last = λ k other here has later. h.last k other (slice_get_within all k other here) here has later;
+  }
 
   -- one step of a loop over the list, of a response that has the property, and of one that hasn't
   pub step_in : (n : ℕ) (x : Bor StoredResponse) (newest next : Option Newest) → n < length all
@@ -138,14 +131,12 @@ module _ (Is : StoredResponse → Type 0) (all : List StoredResponse) where
   -- what the loop ends with
   pub end_some : (n : ℕ) (found : Option Newest) (newest : Newest) → found ≡ Some newest → length all ≤ n
       → n ≤ length all → LeadsOf n found → IsMostRecent Is all newest.place
-  end_some n found newest is high low h =
-      leader_is_selected (Some newest)
+  end_some n found newest is high low h = leader_is_selected (Some newest)
       (subst (λ (m : ℕ). LeadsOf m (Some newest)) (omega (arith, high, low)) (subst (LeadsOf n) is h))
 
   pub end_none : (n : ℕ) (found : Option Newest) → found ≡ None → length all ≤ n
       → n ≤ length all → LeadsOf n found → IsSelected Is all None
-  end_none n found is high low h =
-      leader_is_selected None
+  end_none n found is high low h = leader_is_selected None
       (subst (λ (m : ℕ). LeadsOf m None) (omega (arith, high, low)) (subst (LeadsOf n) is h))
 
   -- ---- one is selected, and only one
@@ -160,15 +151,14 @@ module _ (Is : StoredResponse → Type 0) (all : List StoredResponse) where
   selects_one None None h k = refl
   selects_one None (Some b) h k = absurd (h b k.response k.at k.is)
   selects_one (Some a) None h k = absurd (k a h.response h.at h.is)
-  selects_one (Some a) (Some b) h k =
-      elim (cases_order a b) [
-        | inl same ↦ ap (λ (n : ℕ). Some n) same
-        | inr apart ↦
-            elim apart [
-              | inl lower ↦ absurd (not_later a b h k lower)
-              | inr higher ↦ absurd (not_later b a k h higher)
-            ]
-      ]
+  selects_one (Some a) (Some b) h k = elim (cases_order a b) [
+    | inl same ↦ ap (λ (n : ℕ). Some n) same
+    | inr apart ↦
+        elim apart [
+          | inl lower ↦ absurd (not_later a b h k lower)
+          | inr higher ↦ absurd (not_later b a k h higher)
+        ]
+  ]
 
 -- ---- what is chosen for a request
 
@@ -207,11 +197,10 @@ module _ (request : Request) (all : List StoredResponse) where
   pub any_chosen : IsSelected IsVaryingCandidate all None → (found : Option ℕ)
       → IsSelected (IsCandidate request) all found → IsChoice request all found
   any_chosen none None h = h
-  any_chosen none (Some place) h =
-      record {
-        response = h.response;
-        at = h.at;
-        is = (h.is, inr (λ k other here candidate varying. none k other here (candidate, varying)));
-        newest = λ k other here has. h.newest k other here has.0;
-        last = λ k other here has later. h.last k other here has.0 later;
-      }
+  any_chosen none (Some place) h = record {
+    response = h.response;
+    at = h.at;
+    is = (h.is, inr (λ k other here candidate varying. none k other here (candidate, varying)));
+    newest = λ k other here has. h.newest k other here has.0;
+    last = λ k other here has later. h.last k other here has.0 later;
+  }

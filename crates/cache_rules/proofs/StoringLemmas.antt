@@ -15,11 +15,10 @@ use Rattle.cache_rules.proofs.FieldLemmas.{set_all-append, without_all}
 
 -- names that aren't equal are told apart
 apart : (a b : List ℕ) → b ≢ a → bytes_eq a b ≡ false
-apart a b differ =
-    elim (cases_Bool (bytes_eq a b)) [
-      | inl same ↦ absurd (differ (sym ((bytes_eq-Decides a b).0 same)))
-      | inr other ↦ other
-    ]
+apart a b differ = elim (cases_Bool (bytes_eq a b)) [
+  | inl same ↦ absurd (differ (sym ((bytes_eq-Decides a b).0 same)))
+  | inr other ↦ other
+]
 
 some_date : (second : ℕ) (lines : List Line) → lines ≢ [] → or_date second lines ≡ lines
 some_date second [] some = absurd (some refl)
@@ -39,10 +38,8 @@ module _ (received : ℕ) (m : Entries FieldValue) where
       ≡ (if is_hop_by_hop true (connection_options given) name then [] else given name)
   end_to_end name = without_all (connection_options given) m name
 
-  other : (name : List ℕ) → name ≢ codes "date"
-      → set_all given (removed ++ dated) name ≡ set_all given removed name
-  other name differ =
-      ap (λ (n : LineMap). n name) (set_all-append given removed dated)
+  other : (name : List ℕ) → name ≢ codes "date" → set_all given (removed ++ dated) name ≡ set_all given removed name
+  other name differ = ap (λ (n : LineMap). n name) (set_all-append given removed dated)
       ∙ rw (apart (codes "date") name differ) refl
 
   date : set_all given (removed ++ dated) (codes "date") ≡ date_lines received
@@ -61,24 +58,21 @@ module _ (received : ℕ) (m : Entries FieldValue) where
 
   -- a response that lacks a Date
   with_date : LacksDate given → IsAsStored received given (set_all given (removed ++ dated))
-  with_date lacks =
-      record {
-        hop_by_hop = λ name hop differ. other name differ ∙ hops name hop;
-        end_to_end = λ name not differ. other name differ ∙ stays name not;
-        date = λ not. date ∙ lacked lacks not;
-        date_of_connection = λ hop. date;
-      }
+  with_date lacks = record {
+    hop_by_hop = λ name hop differ. other name differ ∙ hops name hop;
+    end_to_end = λ name not differ. other name differ ∙ stays name not;
+    date = λ not. date ∙ lacked lacks not;
+    date_of_connection = λ hop. date;
+  }
 
   -- a response that has one
   without_date : ¬ (LacksDate given) → IsAsStored received given (set_all given (removed ++ []))
-  without_date has =
-      rw (append-nil removed)
-      (record {
-        hop_by_hop = λ name hop differ. hops name hop;
-        end_to_end = λ name not differ. stays name not;
-        date = λ not. stays (codes "date") not ∙ sym (some_date received _ (λ none. has (inl none)));
-        date_of_connection = λ hop. absurd (has (inr hop));
-      })
+  without_date has = rw (append-nil removed) (record {
+    hop_by_hop = λ name hop differ. hops name hop;
+    end_to_end = λ name not differ. stays name not;
+    date = λ not. stays (codes "date") not ∙ sym (some_date received _ (λ none. has (inl none)));
+    date_of_connection = λ hop. absurd (has (inr hop));
+  })
 
 -- what the test says of a response
 lacks_date-true : (response : LineMap) → LacksDate response → lacks_date response ≡ true
@@ -94,8 +88,7 @@ lacks_date-false : (response : LineMap) → ¬ (LacksDate response) → lacks_da
 lacks_date-false response has =
     by (response (codes "date")) (λ none. has (inl none)) (false_from_ne_true _ (λ hop. has (inr hop)))
   where
-    by : (lines : List Line) → lines ≢ []
-        → is_hop_by_hop true (connection_options response) (codes "date") ≡ false
+    by : (lines : List Line) → lines ≢ [] → is_hop_by_hop true (connection_options response) (codes "date") ≡ false
         → (is_absent lines || is_hop_by_hop true (connection_options response) (codes "date")) ≡ false
     by [] some not = absurd (some refl)
     by (line ∷ lines) some not = not
@@ -112,15 +105,12 @@ lacks_date-means response holds = by (response (codes "date")) refl holds
 -- these fields turn what came into what is stored
 pub as_stored : (received : ℕ) (m : Entries FieldValue) (fields : List Field) → fields ≡ storing_fields received m
     → IsAsStored received (lines_at m) (set_all (lines_at m) fields)
-as_stored received m fields is =
-    elim (cases_Bool (lacks_date (lines_at m))) [
-      | inl holds ↦ rw is (rw holds (with_date received m (lacks_date-means (lines_at m) holds)))
-      | inr fails ↦
-          rw is
-          (rw fails
-          (without_date received m
-          (λ lacks. both_ways (lacks_date (lines_at m)) fails (lacks_date-true (lines_at m) lacks))))
-    ]
+as_stored received m fields is = elim (cases_Bool (lacks_date (lines_at m))) [
+  | inl holds ↦ rw is (rw holds (with_date received m (lacks_date-means (lines_at m) holds)))
+  | inr fails ↦
+      rw is (rw fails (without_date received m
+      (λ lacks. both_ways (lacks_date (lines_at m)) fails (lacks_date-true (lines_at m) lacks))))
+]
 
 -- the fields of a response that lacks a Date, and of one that has one
 pub listed_dated : (received : ℕ) (m : Entries FieldValue) (fields : List Field) → LacksDate (lines_at m)
@@ -137,8 +127,7 @@ listed_undated received m fields has is =
 pub dated_fields : (done all : List Encoded) (date : Encoded) (fields : List Field) (second : ℕ)
     → all ≡ done ++ date ∷ [] → fields_of done ≡ fields → field_of date ≡ (codes "date", date_lines second)
     → fields_of all ≡ fields ++ (codes "date", date_lines second) ∷ []
-dated_fields done all date fields second pushed before is =
-    ap fields_of pushed ∙ map-append field_of done (date ∷ [])
+dated_fields done all date fields second pushed before is = ap fields_of pushed ∙ map-append field_of done (date ∷ [])
     ∙ ap (λ (fs : List Field). fs ++ field_of date ∷ []) before ∙ ap (λ (f : Field). fields ++ f ∷ []) is
 
 -- ---- fields on which reuse depends
@@ -158,8 +147,7 @@ module _ (given a b : LineMap)
       let first = or_parts (bytes_eq name (codes "age") || bytes_eq name (codes "date"))
       (is_hop_by_hop true (connection_options given) name) e in
       let set = or_parts (bytes_eq name (codes "age")) (bytes_eq name (codes "date")) first.0 in
-      same name (λ hop. both_ways _ first.1 hop)
-      (λ is. both_ways _ set.0 ((bytes_eq-Decides name (codes "age")).1 is))
+      same name (λ hop. both_ways _ first.1 hop) (λ is. both_ways _ set.0 ((bytes_eq-Decides name (codes "age")).1 is))
       (λ is. both_ways _ set.1 ((bytes_eq-Decides name (codes "date")).1 is))
 
   told_alike : (names : List (List ℕ)) → list_any (is_lost given) names ≡ false → told names a ≡ told names b
@@ -195,6 +183,5 @@ module _ (targets : List (List ℕ)) (received : ℕ) (given kept : LineMap) (fa
 
   -- what governs the response as it came governs it as it is stored
   pub governing_stays : governing targets kept ≡ governing targets given
-  governing_stays =
-      governed_alike given kept given (λ name hop age date. is.end_to_end name hop date) cache_control_stays targets
-      fair.targeted
+  governing_stays = governed_alike given kept given (λ name hop age date. is.end_to_end name hop date)
+      cache_control_stays targets fair.targeted

@@ -101,12 +101,11 @@ module _ {Y Z : Type 0} (target : List ℕ) where
   filter-counts m none (e ∷ es) d = (elim (is_key target e.0) as (λ b. is_key target e.0 ≡ b
       → sum_by m (cond b (shown_entry e ∷ filter (is_for target) (shown es)) (filter (is_for target) (shown es)))
       ≡ m (target, cond b e.1.items (responses_at target (shown es)))) [
-        | true ↦ λ t. sum_by-cons m (shown_entry e) (filter (is_for target) (shown es))
-            ∙ omega (
-              arith,
-              ap (sum_by m) (filter-absent target (shown es) (absent_after e es t d)),
-              ap (λ key. m (key, e.1.items)) ((bytes_eq-Decides target (string_bytes e.0)).0 t),
-            )
+        | true ↦ λ t. sum_by-cons m (shown_entry e) (filter (is_for target) (shown es)) ∙ omega (
+          arith,
+          ap (sum_by m) (filter-absent target (shown es) (absent_after e es t d)),
+          ap (λ key. m (key, e.1.items)) ((bytes_eq-Decides target (string_bytes e.0)).0 t),
+        )
         | false ↦ λ t. filter-counts m none es (IsDistinct-tail string_eq e.0 (keys_of es) d)
       ]) refl
 
@@ -254,8 +253,7 @@ module _ {limits : Limits} {responses bytes next : ℕ} {old new : Contents} whe
   pub counted-used : IsCounted limits responses bytes next old → (target : List ℕ) → new ≡ used target old
       → IsCounted limits responses bytes next new
   counted-used are target moved =
-      let same : (m : Target → ℕ) → sum_by m new ≡ sum_by m old =
-      λ m. ap (sum_by m) moved ∙ sum_by-used target m old in
+      let same : (m : Target → ℕ) → sum_by m new ≡ sum_by m old = λ m. ap (sum_by m) moved ∙ sum_by-used target m old in
       record {
         counted = are.counted ∙ sym (same (λ entry. length entry.1));
         weighed = are.weighed ∙ sym (same (λ entry. bytes_at entry.0 entry.1));
@@ -320,8 +318,7 @@ module _ (limits : Limits) (responses bytes : ℕ) where
           → IsFrontWithout limits responses bytes old new
       front-next old front =
           let some = not_empty mid cramped in
-          let long : length mid ≡ front.count =
-          ap length front.front ∙ length-take-le front.count old front.within in
+          let long : length mid ≡ front.count = ap length front.front ∙ length-take-le front.count old front.within in
           record {
             count = front.count - 1;
             within = omega (arith, front.within);

@@ -72,11 +72,9 @@ module _ (next : ℕ) (old : Contents) (later : ℕ) (new : Contents) (rises : n
 
   pub goes-inserted : (limits : Limits) (target : List ℕ) (stored : StoredResponse)
       → IsInserted limits target stored old new → next ≤ stored.number → GoOn next old later new
-  goes-inserted limits target stored inserted fresh =
-      goes-put target inserted.rest
+  goes-inserted limits target stored inserted fresh = goes-put target inserted.rest
       (λ entry k. (Has-without target old entry (Has-take inserted.room.count (without target old) entry
-      (subst (λ l. Has l entry) inserted.room.front k))).0)
-      (inserted.kept ++ stored ∷ [])
+      (subst (λ l. Has l entry) inserted.room.front k))).0) (inserted.kept ++ stored ∷ [])
       (λ one h. elim (Has-append inserted.kept (stored ∷ []) one h) [
         | inl a ↦ inl (Has-rest (request_of_stored stored) (responses_at target old) inserted.others inserted.beside one
             (Has-drop inserted.trimmed.count inserted.others one (subst (λ l. Has l one) inserted.trimmed.left a)))
@@ -84,8 +82,7 @@ module _ (next : ℕ) (old : Contents) (later : ℕ) (new : Contents) (rises : n
           | inl same ↦ inr (subst (λ (s : StoredResponse). next ≤ s.number) same fresh)
           | inr none ↦ absurd none
         ]
-      ])
-      inserted.put
+      ]) inserted.put
 
   -- what a validating response leaves
   module _ (target : List ℕ) (other : Contents) (is_other : other ≡ without target old)
@@ -110,10 +107,8 @@ module _ (next : ℕ) (old : Contents) (later : ℕ) (new : Contents) (rises : n
     pub goes-again : (these : List StoredResponse) → ((one : StoredResponse) → Has these one → Has taken one)
         → ((one : StoredResponse) → Has left one → Has these one ⊎ (first ≤ one.number)) → (fresh : StoredResponse)
         → first ≤ fresh.number → new ≡ (target, left ++ fresh ∷ []) ∷ other → GoOn next old later new
-    goes-again these within kept fresh above put =
-        goes-put target other fewer-other (left ++ fresh ∷ [])
+    goes-again these within kept fresh above put = goes-put target other fewer-other (left ++ fresh ∷ [])
         (λ one h. elim (Has-append _ _ _ h) [
           | inl a ↦ each-left these within kept one a
           | inr b ↦ elim b [ inl same ↦ inr (rw is_first at (rw same at above)) | inr none ↦ absurd none ]
-        ])
-        put
+        ]) put

@@ -224,9 +224,8 @@ module _ (policy : Policy) (limits : Limits) where
                   | inl a ↦ beside (remove (responses_at target old) r.refreshed.place) r.left r.refreshed.beside
                       (others r.refreshed.place) stored a
                   | inr b ↦ elim b [
-                    | inl same ↦ subst (IsJustified policy target
-                        (Validated target request update exchange ∷ calls)) same
-                        (answered r.fresh r.left r.refreshed r.reusable)
+                    | inl same ↦ subst (IsJustified policy target (Validated target request update exchange ∷ calls))
+                        same (answered r.fresh r.left r.refreshed r.reusable)
                     | inr none ↦ absurd none
                   ]
                 ])

@@ -14,8 +14,7 @@ pub run_kept : (policy : Policy) (limits : Limits) (first : State) (calls : Hist
     → HasUnder last.contents target stored → stored.number < first.next → HasUnder first.contents target stored)
 run_kept policy limits first [] last same = (
   omega (arith, ap (λ (s : State). s.next) same),
-  λ target stored h old.
-      subst (λ (s : State). HasUnder s.contents target stored) same h,
+  λ target stored h old. subst (λ (s : State). HasUnder s.contents target stored) same h,
 )
 run_kept policy limits first (call ∷ calls) last (before, ran, step, goes, are) =
     let earlier = run_kept policy limits first calls before ran in (

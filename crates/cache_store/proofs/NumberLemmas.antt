@@ -59,8 +59,7 @@ numbered-at (x ∷ xs) (suc i) stored once at =
         one-own stored.number x (is-number stored.number x t),
         times-has stored.number xs stored here refl,
       ))
-      | false ↦ λ t. numbered-at xs i stored
-          (λ number. omega (arith, once number, times-cons number x xs)) at
+      | false ↦ λ t. numbered-at xs i stored (λ number. omega (arith, once number, times-cons number x xs)) at
     ]) refl
   where
     at-has : (xs : List StoredResponse) (i : ℕ) (stored : StoredResponse) → slice_get xs i ≡ Some stored → Has xs stored

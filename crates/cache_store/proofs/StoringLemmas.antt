@@ -29,8 +29,7 @@ module _ (limits : Limits) (target : List ℕ) (size : ℕ) where
   trim-some alone [] cramped = absurd (cramped (record {
     variants = alone.variants;
     few = alone.few;
-    light = omega
-        (arith, alone.light);
+    light = omega (arith, alone.light);
   }))
   trim-some alone (x ∷ mid) cramped = omega arith
 

@@ -57,8 +57,7 @@ stays r =
     record { answers = λ present resource answer. ((λ h. h), (λ h. h)); method = refl; host = refl; directs = refl }
 
 named_alike : (r s : Request) → AreAlike r s → named_host r ≡ named_host s
-named_alike r s h =
-    ap (λ (authority : Option Line). replaced authority (r.fields (codes "host"))) h.authority
+named_alike r s h = ap (λ (authority : Option Line). replaced authority (r.fields (codes "host"))) h.authority
     ∙ ap (λ (lines : List Line). replaced s.authority lines) h.host
 
 turned : {r s : Request} → Stands r s → Stands s r
@@ -98,45 +97,42 @@ told_by {site = site} {hops = hops} {sent = sent} {came = came} {target = target
     subst (λ (lines : List Line). IsSaid (site lines target) t.time r before) h.host t.said in
     record {
       time = t.time;
-      said =
-          record {
-            answer = said.answer;
-            is = (h.answers (second_of t.time) ((site (named_host s) target).resource t.time) said.answer).0 said.is;
-            status = said.status ∙ ap (λ (n : ℕ). Some n) (sym k.status);
-            content = rw (sym h.method, k.status) (k.content ∙ said.content);
-            fields = λ name c. rw k.status (k.fields name c ∙ said.fields name c);
-          };
+      said = record {
+        answer = said.answer;
+        is = (h.answers (second_of t.time) ((site (named_host s) target).resource t.time) said.answer).0 said.is;
+        status = said.status ∙ ap (λ (n : ℕ). Some n) (sym k.status);
+        content = rw (sym h.method, k.status) (k.content ∙ said.content);
+        fields = λ name c. rw k.status (k.fields name c ∙ said.fields name c);
+      };
       left = t.left;
       since = t.since;
       after = omega (arith, early, t.after);
       past = omega (arith, late, t.past);
-      aged =
-          subst (λ (n : ℕ). Counts n (caches (front ++ hops)) t.time t.left) k.age
+      aged = subst (λ (n : ℕ). Counts n (caches (front ++ hops)) t.time t.left) k.age
           (shorter _ _ _ _ _ (more front hops) t.aged);
-      good =
-          elim t.good [
-            | inl e ↦ inl e
-            | inr g ↦
-                inr (
-                record {
-                  caching = g.caching;
-                  nearer = front ++ g.nearer;
-                  further = g.further;
-                  on_the_way = ap (λ (hops : List Hop). front ++ hops) g.on_the_way
-                      ∙ sym (append_assoc front g.nearer (Stores g.caching ∷ g.further));
-                  asked = g.asked;
-                  method = g.method ∙ h.method;
-                  directs = g.directs ∙ h.directs;
-                  arrived = g.arrived;
-                  after = omega (arith, early, g.after);
-                  stored = g.stored;
-                  status = k.status ∙ g.status;
-                  same = λ name c. k.fields name c ∙ g.same name c;
-                  date = λ has. k.date (subst HasLine (sym (g.date has)) has) ∙ g.date has;
-                  found = g.found;
-                }
-                )
-          ];
+      good = elim t.good [
+        | inl e ↦ inl e
+        | inr g ↦
+            inr (
+            record {
+              caching = g.caching;
+              nearer = front ++ g.nearer;
+              further = g.further;
+              on_the_way = ap (λ (hops : List Hop). front ++ hops) g.on_the_way
+                  ∙ sym (append_assoc front g.nearer (Stores g.caching ∷ g.further));
+              asked = g.asked;
+              method = g.method ∙ h.method;
+              directs = g.directs ∙ h.directs;
+              arrived = g.arrived;
+              after = omega (arith, early, g.after);
+              stored = g.stored;
+              status = k.status ∙ g.status;
+              same = λ name c. k.fields name c ∙ g.same name c;
+              date = λ has. k.date (subst HasLine (sym (g.date has)) has) ∙ g.date has;
+              found = g.found;
+            }
+            )
+      ];
       connection = k.connection;
     }
 
@@ -149,28 +145,25 @@ told_as {start = start} {now = now} {reply = reply} h t =
 module _ (reads : ReadsNoMore) where
   same_if : (r s : Request) → AreAlike r s → ChooseAlike r.fields s.fields
       → r.fields (codes "cache-control") ≡ s.fields (codes "cache-control") → Stands r s
-  same_if r s alike choose line =
-      record {
-        answers = λ present resource answer. reads present resource r s answer alike choose;
-        method = alike.method;
-        host = named_alike r s alike;
-        directs = line;
-      }
+  same_if r s alike choose line = record {
+    answers = λ present resource answer. reads present resource r s answer alike choose;
+    method = alike.method;
+    host = named_alike r s alike;
+    directs = line;
+  }
 
   -- a request without connection options is as it is meant
   as_meant : (request : Request) → request.protocol ≡ Http11 → request.authority ≡ None
       → connection_options request.fields ≡ [] → (hops : List Hop) → Stands request (meant hops request)
   as_meant request modern origin none [] = stays _
   as_meant request modern origin none (Stores caching ∷ hops) = as_meant request modern origin none hops
-  as_meant request modern origin none (Forwards gateway ∷ hops) =
-      same_if request (sent_directly gateway request) (direct gateway request modern origin none)
-      (choose_direct gateway request modern origin none)
+  as_meant request modern origin none (Forwards gateway ∷ hops) = same_if request (sent_directly gateway request)
+      (direct gateway request modern origin none) (choose_direct gateway request modern origin none)
       (crosses gateway request modern origin none (codes "cache-control") (refl, refl, refl, refl, refl, refl))
 
   plain_meant : {target : List ℕ} (request : Request) → IsPlain target request → (hops : List Hop)
       → Stands request (meant hops request)
-  plain_meant request h =
-      as_meant request h.read.protocol h.read.authority
+  plain_meant request h = as_meant request h.read.protocol h.read.authority
       (ap (λ (lines : List Line). field_members true lines) (h.without 0 [] (omega arith)))
 
 -- ---- a gateway
@@ -185,9 +178,8 @@ module _ {gateway : Gateway} {behind reply : Reply} (f : IsSentBack gateway behi
   status_behind : reply.status ≡ behind.status
   status_behind = f.status ∙ f.received.status
 
-  passes : SaysCloseAtMost behind.fields → (name : List ℕ) → is_known true name ≡ false
-      → lowercase name ≢ codes "close" → has_mark name ≡ false → All (λ own. own ≢ name) own_names
-      → reply.fields name ≡ behind.fields name
+  passes : SaysCloseAtMost behind.fields → (name : List ℕ) → is_known true name ≡ false → lowercase name ≢ codes "close"
+      → has_mark name ≡ false → All (λ own. own ≢ name) own_names → reply.fields name ≡ behind.fields name
   passes at_most name end_to_end not_close unmarked not_own =
       let crossing = crosses_if gateway.consumes_credentials f.response.fields
       (at_most.0, f.received.fields (codes "connection") ∙ at_most.1) name end_to_end not_close in
@@ -204,31 +196,25 @@ module _ {gateway : Gateway} {behind reply : Reply} (f : IsSentBack gateway behi
       f.fields name ∙ f.forwarded.fields.hop_by_hop name (rw same at hop) other
 
   carries : SaysCloseAtMost behind.fields → Carries behind reply
-  carries at_most =
-      record {
-        status = status_behind;
-        content = f.content;
-        fields = λ name c. passes at_most name c.end_to_end c.not_close c.unmarked c.not_own;
-        date =
-            λ has.
-            f.fields (codes "date") ∙ f.forwarded.fields.date
-            ∙ same_date f.date _ (subst HasLine (sym (f.received.fields (codes "date"))) has)
-            ∙ f.received.fields (codes "date");
-        age =
-            ap age_of
-            (sym (passes at_most (codes "age") refl (λ e. absurd (cc e)) refl (differs (codes "age") own_names refl)));
-        connection = (
-          false,
-          f.fields (codes "connection")
-              ∙ f.forwarded.fields.hop_by_hop (codes "connection") refl (apart (codes "connection") refl),
-        );
-      }
+  carries at_most = record {
+    status = status_behind;
+    content = f.content;
+    fields = λ name c. passes at_most name c.end_to_end c.not_close c.unmarked c.not_own;
+    date = λ has. f.fields (codes "date") ∙ f.forwarded.fields.date
+        ∙ same_date f.date _ (subst HasLine (sym (f.received.fields (codes "date"))) has)
+        ∙ f.received.fields (codes "date");
+    age = ap age_of
+        (sym (passes at_most (codes "age") refl (λ e. absurd (cc e)) refl (differs (codes "age") own_names refl)));
+    connection = (
+      false,
+      f.fields (codes "connection")
+          ∙ f.forwarded.fields.hop_by_hop (codes "connection") refl (apart (codes "connection") refl),
+    );
+  }
 
   -- a carried field that isn't behind the gateway isn't before it
   lacks_behind : (name : List ℕ) → IsCarried name → behind.fields name ≡ [] → reply.fields name ≡ []
-  lacks_behind name c none =
-      f.fields name
-      ∙ elim (
+  lacks_behind name c none = f.fields name ∙ elim (
       cases_Bool (is_hop_by_hop gateway.consumes_credentials (connection_options f.response.fields) name)
       ) [
         | inl hop ↦ f.forwarded.fields.hop_by_hop name hop (coding_not_carried name c)
@@ -238,8 +224,7 @@ module _ {gateway : Gateway} {behind reply : Reply} (f : IsSentBack gateway behi
       ]
 
   blank_behind : IsBlank behind → IsBlank reply
-  blank_behind b =
-      record { content = f.content ∙ b.content; fields = λ name c. lacks_behind name c (b.fields name c) }
+  blank_behind b = record { content = f.content ∙ b.content; fields = λ name c. lacks_behind name c (b.fields name c) }
 
 through : ReadsNoMore → {gateway : Gateway} {origin : Origin} {start now : ℕ} {target : List ℕ} {request : Request}
     {reply : Reply} {site : Site} {silent : List Hop → ℕ → Bool} {hops : List Hop}
@@ -256,8 +241,7 @@ through reads {gateway = gateway} {start = start} {now = now} {request = request
 
 -- what a law of a resource says: HEAD is answered as GET
 abbrev pub HeadIsAsGet : Type 0
-HeadIsAsGet =
-    (present : ℕ) (resource : Resource) (request : Request) (answer : Answer)
+HeadIsAsGet = (present : ℕ) (resource : Resource) (request : Request) (answer : Answer)
     → IsAnswer present resource (get_of request) answer → IsAnswer present resource (head_of request) answer
 
 -- ---- a method in place of another
@@ -267,16 +251,14 @@ module _ (request : Request) where
   as_head is_head = alike_by (head_of request) request (λ name is. refl) refl (sym is_head) refl refl refl refl
 
   as_it_is : (method : List ℕ) → method ≡ request.method → AreAlike (with_method method request) request
-  as_it_is method same =
-      alike_by (with_method method request) request (λ name is. refl) refl same refl refl refl refl
+  as_it_is method same = alike_by (with_method method request) request (λ name is. refl) refl same refl refl refl refl
 
   choose_it : ChooseAlike request.fields request.fields
   choose_it = choose_by request request (λ name is. refl)
 
   module _ (none : request.fields (codes "range") ≡ []) where
     get_fields : (name : List ℕ) → IsRead name → request.fields name ≡ (get_of request).fields name
-    get_fields name is =
-        cond_both (bytes_eq (codes "range") name) [] (request.fields name)
+    get_fields name is = cond_both (bytes_eq (codes "range") name) [] (request.fields name)
         (λ (lines : List Line). request.fields name ≡ lines)
         (λ e. subst (λ (n : List ℕ). request.fields n ≡ []) ((bytes_eq-Decides (codes "range") name).0 e) none)
         (λ e. refl)
@@ -295,8 +277,7 @@ allowed_answer : ReadsNoMore → HeadIsAsGet → (target : List ℕ) (request : 
 allowed_answer reads heads target request plain method (inl h) present resource answer k = by h.1
   where
     by : IsGetOrHead request.method → IsAnswer present resource request answer
-    by (inl get) =
-        (reads present resource (with_method method request) request answer
+    by (inl get) = (reads present resource (with_method method request) request answer
         (as_it_is request method (h.0 ∙ sym get)) (choose_it request)).0 k
     by (inr head) =
         let none = plain.without 8 [] (omega arith) in
@@ -326,29 +307,25 @@ module _ (reads : ReadsNoMore) (heads : HeadIsAsGet) (sound : VaryIsSound) (memb
       (f : IsFromStore caching (behind site silent hops) (silent hops) start now target request reply) where
     own_stored : IsOwn site silent hops (came f).sent (came f).received target (first f) (came f).reply
         → IsOwn site silent (Stores caching ∷ hops) start now target request reply
-    own_stored own =
+    own_stored own = record {
+      reason = inr (inl (
+        f,
         record {
-          reason =
-              inr (inl (
-                f,
-                record {
-                  sent = (came f).sent;
-                  came = (came f).received;
-                  past = omega (arith, (came f).past, f.past);
-                  first = first f;
-                  plain = plain_first law f;
-                  given_reply = (came f).reply;
-                  given = own.reason;
-                  status = (status_is f);
-                },
-              ));
-          blank =
-              record {
-                content =
-                    once_more law f [] (own.blank.content ∙ sym (nothing (first f).method)) ∙ nothing request.method;
-                fields = λ name c. lacks law f name c.not_age (date_not_carried _ c) (own.blank.fields name c);
-              };
-        }
+          sent = (came f).sent;
+          came = (came f).received;
+          past = omega (arith, (came f).past, f.past);
+          first = first f;
+          plain = plain_first law f;
+          given_reply = (came f).reply;
+          given = own.reason;
+          status = (status_is f);
+        },
+      ));
+      blank = record {
+        content = once_more law f [] (own.blank.content ∙ sym (nothing (first f).method)) ∙ nothing request.method;
+        fields = λ name c. lacks law f name c.not_age (date_not_carried _ c) (own.blank.fields name c);
+      };
+    }
 
     from_store : IsTold site silent hops (came f).sent (came f).received target (first f) (came f).reply
         → IsTold site silent (Stores caching ∷ hops) start now target request reply
@@ -364,44 +341,34 @@ module _ (reads : ReadsNoMore) (heads : HeadIsAsGet) (sound : VaryIsSound) (memb
         let both_alike = alike_first law f in
         let same = suited sound members (second_of t.time) (server.resource t.time) (first f) asked_now said.answer
         now_said.0 (server.own t.time (came f).reply.status) said.is now_said.1 both_alike (suits law f
-        (set_all (server.own t.time (came f).reply.status) (fields_of said.answer.fields.items)) varies)
-        in
+        (set_all (server.own t.time (came f).reply.status) (fields_of said.answer.fields.items)) varies) in
         let aged = counts law f at_most t.time t.left (caches hops) t.since t.after t.past t.aged in
-        let told : IsSaid server t.time request reply =
-        record {
+        let told : IsSaid server t.time request reply = record {
           answer = now_said.0;
-          is =
-              allowed_answer reads heads target request f.found.sought.plain (first f).method
-              (allowed_method law f) (second_of t.time) (server.resource t.time)
-              now_said.0 now_said.1;
+          is = allowed_answer reads heads target request f.found.sought.plain (first f).method (allowed_method law f)
+              (second_of t.time) (server.resource t.time) now_said.0 now_said.1;
           status = sym same.status ∙ said.status ∙ ap (λ (n : ℕ). Some n) (sym (status_is f));
-          content =
-              once_more law f
-              (server.content t.time (came f).reply.status (sent_of said.answer.sends)) said.content ∙ ap
+          content = once_more law f (server.content t.time (came f).reply.status (sent_of said.answer.sends))
+              said.content ∙ ap
               (λ (sent : _). unless_head request.method (server.content t.time (came f).reply.status sent))
               (same_sent _ _ same.sends) ∙ ap
               (λ (n : ℕ). unless_head request.method (server.content t.time n (sent_of now_said.0.sends)))
               (sym (status_is f));
-          fields = λ name c.
-              f.fields name c.not_age ∙ stored name c ∙ said.fields name c
+          fields = λ name c. f.fields name c.not_age ∙ stored name c ∙ said.fields name c
               ∙ ap (λ fields. set_all (server.own t.time (came f).reply.status) fields name) same.fields
-              ∙ ap
-              (λ (n : ℕ). set_all (server.own t.time n) (fields_of now_said.0.fields.items) name)
+              ∙ ap (λ (n : ℕ). set_all (server.own t.time n) (fields_of now_said.0.fields.items) name)
               (sym (status_is f));
-        }
-        in
+        } in
         record {
           time = t.time;
-          said =
-              subst (λ (lines : List Line). IsSaid (site lines target) t.time request reply)
+          said = subst (λ (lines : List Line). IsSaid (site lines target) t.time request reply)
               (named_alike (first f) asked_now both_alike) told;
           left = f.time;
           since = omega (arith, t.since, t.past, (came f).past);
           after = f.after;
           past = f.past;
           aged = subst (λ (n : ℕ). Counts n (caches hops + 1) t.time f.time) (sym (age_is law f)) aged;
-          good =
-              inr (
+          good = inr (
               record {
                 caching = caching;
                 nearer = [];
@@ -429,8 +396,7 @@ module _ (reads : ReadsNoMore) (heads : HeadIsAsGet) (sound : VaryIsSound) (memb
         → behind site silent hops start now target request reply
         → IsTold site silent hops start now target (meant hops request) reply
         ⊎ IsOwn site silent hops start now target request reply
-    tells [] start now target request reply h =
-        inl (
+    tells [] start now target request reply h = inl (
         record {
           time = h.0;
           said = h.3.said;

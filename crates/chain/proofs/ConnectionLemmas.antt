@@ -8,11 +8,10 @@ use Rattle.gateway_messages.specs.HopByHop.{hop_by_hop_fields, is_hop_by_hop, is
 
 -- `close` names no field of another name
 not_close : (name : List ℕ) → lowercase name ≢ codes "close" → bytes_eq (codes "close") (lowercase name) ≡ false
-not_close name other =
-    elim (cases_Bool (bytes_eq (codes "close") (lowercase name))) [
-      | inl t ↦ absurd (other (sym ((bytes_eq-Decides (codes "close") (lowercase name)).0 t)))
-      | inr f ↦ f
-    ]
+not_close name other = elim (cases_Bool (bytes_eq (codes "close") (lowercase name))) [
+  | inl t ↦ absurd (other (sym ((bytes_eq-Decides (codes "close") (lowercase name)).0 t)))
+  | inr f ↦ f
+]
 
 names_none : (closes : Bool) (name : List ℕ) → lowercase name ≢ codes "close"
     → is_named (field_members true (connection_lines closes)) name ≡ false

@@ -6,8 +6,7 @@ use Rattle.updates.specs.Worlds.{Condition.IfMatch, Message.{Coming, Going}, Req
 
 pub performs-event : (world : World) (message : ℕ) (passed : List Hop) (put : Put) (etag new : List ℕ)
     → slice_get world.messages message ≡ Some (Going passed (Puts put)) → put.condition ≡ IfMatch etag
-    → is_true (IfMatch etag) world.current ≡ true
-    → happens world (Answers message new false)
+    → is_true (IfMatch etag) world.current ≡ true → happens world (Answers message new false)
     ≡ sends (Coming passed (Puts put) (Status204 (made_of put new world))) (performs put (made_of put new world) world)
 performs-event world message passed put etag new at condition holds =
     ap (λ (o : Option Message). acts (Answers message new false) o world) at

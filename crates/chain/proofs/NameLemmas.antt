@@ -42,8 +42,7 @@ said lines etag test star_not one holds =
 
 same_text : (a b : Line) → AreTags StronglyEqual a b → a ≡ b
 same_text a b h =
-    let parts : h.0 ≡ h.1 =
-    ap (λ (w : Bool). record { is_weak = w; opaque = h.0.opaque }) (h.4.left ∙ sym h.4.right)
+    let parts : h.0 ≡ h.1 = ap (λ (w : Bool). record { is_weak = w; opaque = h.0.opaque }) (h.4.left ∙ sym h.4.right)
     ∙ ap (λ (o : List ℕ). record { is_weak = h.1.is_weak; opaque = o }) h.4.opaque in
     h.2.text ∙ ap tag_text parts ∙ sym h.3.text
 
@@ -56,15 +55,12 @@ listed_tag fields etag found tag (target.Current validators) is one has there ho
     let now : IfMatchIsTrue fields (target.Current (record validators { etag = Some tag })) =
     subst (λ (o : Option FieldValue). IfMatchIsTrue fields (target.Current (record validators { etag = o })))
     (has ∙ there) holds in
-    same_text etag tag.bytes ((strongly_equal etag tag.bytes).0
-    (said (fields (codes "if-match")) etag _ is one now))
+    same_text etag tag.bytes ((strongly_equal etag tag.bytes).0 (said (fields (codes "if-match")) etag _ is one now))
 
 no_tag : (fields : LineMap) (etag : Line) → is_star (fields (codes "if-match")) ≡ false
     → field_members false (fields (codes "if-match")) ≡ Whole etag ∷ []
     → IfMatchIsTrue fields (target_of state.Current None) → ⊥
-no_tag fields etag is one holds =
-    both_ways false refl
-    (said (fields (codes "if-match")) etag _ is one holds)
+no_tag fields etag is one holds = both_ways false refl (said (fields (codes "if-match")) etag _ is one holds)
 
 -- ---- the version that is there
 
@@ -120,8 +116,7 @@ put_is_no_read = refl
 
 -- what a law of a resource says
 abbrev pub ReplacesWhatItNames : Type 0
-ReplacesWhatItNames =
-    (present : ℕ) (resource : Resource) (request : Request) (answer : Answer)
+ReplacesWhatItNames = (present : ℕ) (resource : Resource) (request : Request) (answer : Answer)
     → needs_condition (rule resource request) ≡ true → is_read request.method ≡ false
     → ¬ (IsUnconditional request.method) → IsAnswer present resource request answer → answer.sends ≡ sends.Perform
     → ReplacesNamed present resource request

@@ -23,8 +23,7 @@ module _ (gateway : Gateway) (date : ℕ) (response next : Response) (sent : For
       passed.fields name ∙ forwarded.fields.end_to_end name end_to_end (well_spelt gateway name unmarked) not_own
 
   still_none : HasNoOptions next.fields
-  still_none =
-      passed.fields (codes "connection")
+  still_none = passed.fields (codes "connection")
       ∙ forwarded.fields.hop_by_hop (codes "connection") refl (apart (codes "connection") refl)
 
 module _ (name : List ℕ) (unmarked : has_mark name ≡ false) (not_own : All (λ own. own ≢ name) own_names) where
@@ -37,7 +36,6 @@ module _ (name : List ℕ) (unmarked : has_mark name ≡ false) (not_own : All (
   unchanged (gateway ∷ gateways) response last way none others =
       let next : Response = way.2 in
       let here : Crosses gateway = others 0 gateway (omega arith) in
-      unchanged gateways next last way.5
-      (still_none gateway way.0 response next way.1 way.3 way.4 none)
+      unchanged gateways next last way.5 (still_none gateway way.0 response next way.1 way.3 way.4 none)
       (All-rest Crosses gateway gateways (gateway ∷ gateways) refl others)
       ∙ kept gateway way.0 response next way.1 way.3 way.4 none name here unmarked not_own

@@ -101,11 +101,8 @@ described false representation = refl
 removed : (plan : Plan) (known : Bool) → are_other (fields_removed plan known) ≡ true
 removed plan known = by (keeps_encoding plan known) (is_whole plan)
   where
-    by : (b c : Bool)
-        → are_other
-        ((if b then [] else (codes "content-encoding", []) ∷ [])
-        ++ (if c then [] else (codes "content-digest", []) ∷ (codes "content-md5", []) ∷ []))
-        ≡ true
+    by : (b c : Bool) → are_other ((if b then [] else (codes "content-encoding", []) ∷ [])
+        ++ (if c then [] else (codes "content-digest", []) ∷ (codes "content-md5", []) ∷ [])) ≡ true
     by true true = refl
     by true false = refl
     by false true = refl
@@ -122,15 +119,13 @@ answered : (present : ℕ) (request : Request) (representation : Option Represen
 answered present request representation target content multipart None h = refl
 answered present request None target content multipart (Some response) h =
     ap are_other h.fields ∙ planned present response.plan (is_known_by request.fields) target content multipart
-answered present request (Some representation) target content multipart (Some response) h =
-    both (metadata_fields (describes response.plan (is_known_by request.fields)) representation)
-    (fields_of response.fields.items)
-    (described (describes response.plan (is_known_by request.fields)) representation)
+answered present request (Some representation) target content multipart (Some response) h = both
+    (metadata_fields (describes response.plan (is_known_by request.fields)) representation)
+    (fields_of response.fields.items) (described (describes response.plan (is_known_by request.fields)) representation)
     (ap are_other h.fields ∙ planned present response.plan (is_known_by request.fields) target content multipart)
 
 given : (b : Bool) (present : ℕ) (resource : Resource) (request : Request) (reason : Reason) (status : Option ℕ)
-    (sent : Sends) (own : List Field) → GivesIf b present resource request reason status sent own
-    → are_other own ≡ true
+    (sent : Sends) (own : List Field) → GivesIf b present resource request reason status sent own → are_other own ≡ true
 given true present resource request reason status sent own h =
     let representation = at_place resource.representations.items h.place in
     ap are_other h.goes.has_fields
@@ -156,8 +151,7 @@ granting policy pre line lines = by (is_some policy.origins) (covers_origin line
 sharing : (cors : Option Policy) (request : Request) (lines : List Line) (fields : List Field)
     → IsShared cors request lines fields → are_other fields ≡ true
 sharing None request lines fields none = ap are_other none
-sharing (Some policy) request lines fields h =
-    ap are_other (h.2 ∙ h.1.fields)
+sharing (Some policy) request lines fields h = ap are_other (h.2 ∙ h.1.fields)
     ∙ granting policy (is_preflight h.0.kind) (granted policy (request.fields (codes "origin"))) lines
 
 -- the fields of an answer leave Connection as it is
@@ -166,16 +160,12 @@ pub sets_no_option : (present : ℕ) (resource : Resource) (request : Request) (
     → set_all before (fields_of answer.fields.items) (codes "connection") ≡ before (codes "connection")
 sets_no_option present resource request answer a before =
     let vary = vary_fields (vary_lines resource answer.reason) in
-    keep before (fields_of answer.fields.items)
-    (
-    ap are_other a.fields
-    ∙ both (a.own ++ vary) a.shared
-    (
+    keep before (fields_of answer.fields.items) (
+    ap are_other a.fields ∙ both (a.own ++ vary) a.shared (
     both a.own vary
     (given (is_admitted answer.reason) present resource request answer.reason answer.status answer.sends a.own a.gives)
     (varied (vary_lines resource answer.reason))
-    )
-    (sharing resource.cors request (vary_lines resource answer.reason) a.shared a.is_shared)
+    ) (sharing resource.cors request (vary_lines resource answer.reason) a.shared a.is_shared)
     )
 
 -- so a server says at most that it closes the connection

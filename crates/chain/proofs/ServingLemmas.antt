@@ -14,17 +14,14 @@ module _ (fields : LineMap) where
 
   all_absent : (names : List (List ℕ)) → list_any (λ name. is_there (fields name)) names ≡ false → All IsAbsent names
   all_absent [] e = All-nil IsAbsent
-  all_absent (name ∷ names) e =
-      elim (cases_Bool (is_there (fields name))) [
-        | inl t ↦
-            absurd (cc (e, ap (λ (b : Bool). b || list_any (λ other. is_there (fields other)) names) t))
-        | inr f ↦
-            All-cons IsAbsent name names (absent (fields name) f)
-            (
-            all_absent names
-            (sym (ap (λ (b : Bool). b || list_any (λ other. is_there (fields other)) names) f) ∙ e)
-            )
-      ]
+  all_absent (name ∷ names) e = elim (cases_Bool (is_there (fields name))) [
+    | inl t ↦
+        absurd (cc (e, ap (λ (b : Bool). b || list_any (λ other. is_there (fields other)) names) t))
+    | inr f ↦
+        All-cons IsAbsent name names (absent (fields name) f) (
+        all_absent names (sym (ap (λ (b : Bool). b || list_any (λ other. is_there (fields other)) names) f) ∙ e)
+        )
+  ]
 
   none_there : (names : List (List ℕ)) → All IsAbsent names → list_any (λ name. is_there (fields name)) names ≡ false
   none_there [] all = refl

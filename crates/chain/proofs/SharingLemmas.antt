@@ -56,23 +56,20 @@ module _ (policy : Policy) (shared : policy.kind ≡ Shared) (target status : �
 
   declared : (request : Request) → May request → list_all is_name (varies response) ≡ true → head.storing
       ≡ SharedFor (map (λ member. lowercase (text_of member)) (varies response)) (is_open (tells policy response))
-  declared request may names =
-      same ∙ grind (arith, (shareable request may).0, may.response_lets, names)
+  declared request may names = same ∙ grind (arith, (shareable request may).0, may.response_lets, names)
 
   allowed : (request : Request) → request.method ≡ codes "GET" → May request
       → list_all is_name (varies response) ≡ true → may_store (sent target request) head ≡ true
-  allowed request get may names =
-      and_from _ _ ((bytes_eq-Decides request.method (codes "GET")).1 get)
+  allowed request get may names = and_from _ _ ((bytes_eq-Decides request.method (codes "GET")).1 get)
       (rw (declared request may names) (grind (arith, (shareable request may).1)))
 
   pub may-be : (request : Request) → request.method ≡ codes "GET" → May request
       → (may_store (sent target request) head ≡ true) ⊎ ((other : Request) → ¬ (Suits request other response))
-  may-be request get may =
-      elim (cases_Bool (list_all is_name (varies response))) [
-        | inl names ↦ inl (allowed request get may names)
-        | inr unnamed ↦
-            inr (λ other suits. let all = all_agree request other target _ suits.fields in cc (all.0, unnamed))
-      ]
+  may-be request get may = elim (cases_Bool (list_all is_name (varies response))) [
+    | inl names ↦ inl (allowed request get may names)
+    | inr unnamed ↦
+        inr (λ other suits. let all = all_agree request other target _ suits.fields in cc (all.0, unnamed))
+  ]
 
   module _ (first request : Request) (may : May first) (suits : Suits first request response) where
     pub matching : matches head (sent target first) (sent target request) ≡ true
@@ -88,8 +85,7 @@ module _ (policy : Policy) (shared : policy.kind ≡ Shared) (target status : �
 
 -- ---- strong tags
 
-pub same_tag : (stored update : LineMap) → HasStrongTag update → IsUpdated stored update
-    → tag_in stored ≡ tag_in update
+pub same_tag : (stored update : LineMap) → HasStrongTag update → IsUpdated stored update → tag_in stored ≡ tag_in update
 same_tag stored update strong about =
     let has : IsPresent (codes "etag") update = grind (arith, strong) in grind (arith, strong, about.tag has)
 

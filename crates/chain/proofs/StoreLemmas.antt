@@ -116,61 +116,57 @@ module _ (caching : Caching) (origin : Origin) (now : ℕ) where
   has_come key stored (Looks target request ∷ acts) contents h j = has_come key stored acts h.0 h.1 j
   has_come key stored (Takes target request came reception ∷ acts) contents h (inl j) =
       has_come key stored acts h.0 h.1 j
-  has_come key stored (Takes target request came reception ∷ acts) contents h (inr j) =
-      record {
-        target = target;
-        request = request;
-        plain = h.2.0;
-        came = came;
-        reception = reception;
-        from = h.2.1;
-        same = j.0;
-        allowed = j.1;
-        kept = j.2;
-      }
+  has_come key stored (Takes target request came reception ∷ acts) contents h (inr j) = record {
+    target = target;
+    request = request;
+    plain = h.2.0;
+    came = came;
+    reception = reception;
+    from = h.2.1;
+    same = j.0;
+    allowed = j.1;
+    kept = j.2;
+  }
   has_come key stored (Drops other ∷ acts) contents h j = has_come key stored acts h.0 h.1 j.1
 
 -- ---- plain requests
 
 -- a request with the method of another one
 abbrev pub with_method : List ℕ → Request → Request
-with_method method request =
-    record {
-      protocol = request.protocol;
-      method = method;
-      authority = request.authority;
-      content = request.content;
-      fields = request.fields;
-      denied = request.denied;
-    }
+with_method method request = record {
+  protocol = request.protocol;
+  method = method;
+  authority = request.authority;
+  content = request.content;
+  fields = request.fields;
+  denied = request.denied;
+}
 
 no_put : (method : List ℕ) → method ≡ codes "PUT" → IsGetOrHead method → ⊥
 no_put method put read = grind arith
 
 pub plain_alike : (target : List ℕ) (r s : Request) → IsPlain target r → IsPlain target s
     → r.fields (codes "host") ≡ s.fields (codes "host") → AreAlike r (with_method r.method s)
-plain_alike target r s h k host =
-    record {
-      protocol = h.read.protocol ∙ sym k.read.protocol;
-      method = refl;
-      authority = h.read.authority ∙ sym k.read.authority;
-      host = host;
-      expect = h.without 3 [] (omega arith) ∙ sym (k.without 3 [] (omega arith));
-      content = h.read.content ∙ sym k.read.content;
-      denied = h.read.admitted ∙ sym k.read.admitted;
-      content_type = h.without 1 [] (omega arith) ∙ sym (k.without 1 [] (omega arith));
-      content_encoding = h.without 2 [] (omega arith) ∙ sym (k.without 2 [] (omega arith));
-      content_range = λ put. absurd (no_put r.method put h.read.method);
-      asks =
-          record {
-            if_match = h.without 4 [] (omega arith) ∙ sym (k.without 4 [] (omega arith));
-            if_none_match = h.without 5 [] (omega arith) ∙ sym (k.without 5 [] (omega arith));
-            if_modified_since = h.without 6 [] (omega arith) ∙ sym (k.without 6 [] (omega arith));
-            if_unmodified_since = h.without 7 [] (omega arith) ∙ sym (k.without 7 [] (omega arith));
-            range = h.without 8 [] (omega arith) ∙ sym (k.without 8 [] (omega arith));
-            if_range = h.without 9 [] (omega arith) ∙ sym (k.without 9 [] (omega arith));
-          };
-    }
+plain_alike target r s h k host = record {
+  protocol = h.read.protocol ∙ sym k.read.protocol;
+  method = refl;
+  authority = h.read.authority ∙ sym k.read.authority;
+  host = host;
+  expect = h.without 3 [] (omega arith) ∙ sym (k.without 3 [] (omega arith));
+  content = h.read.content ∙ sym k.read.content;
+  denied = h.read.admitted ∙ sym k.read.admitted;
+  content_type = h.without 1 [] (omega arith) ∙ sym (k.without 1 [] (omega arith));
+  content_encoding = h.without 2 [] (omega arith) ∙ sym (k.without 2 [] (omega arith));
+  content_range = λ put. absurd (no_put r.method put h.read.method);
+  asks = record {
+    if_match = h.without 4 [] (omega arith) ∙ sym (k.without 4 [] (omega arith));
+    if_none_match = h.without 5 [] (omega arith) ∙ sym (k.without 5 [] (omega arith));
+    if_modified_since = h.without 6 [] (omega arith) ∙ sym (k.without 6 [] (omega arith));
+    if_unmodified_since = h.without 7 [] (omega arith) ∙ sym (k.without 7 [] (omega arith));
+    range = h.without 8 [] (omega arith) ∙ sym (k.without 8 [] (omega arith));
+    if_range = h.without 9 [] (omega arith) ∙ sym (k.without 9 [] (omega arith));
+  };
+}
 
 -- a stored response may answer its own method
 own_method : (m n : List ℕ) → AllowsMethod m n → AllowsMethod m m
@@ -236,8 +232,7 @@ module _ (law : StoreLaws) {caching : Caching} {origin : Origin} {silent : ℕ �
   run = runs caching origin f.time (Looks target request ∷ f.found.acts) f.contents all_acts
 
   abbrev Right : StoredResponse → Type 0
-  Right stored =
-      IsRight caching.policy caching.most key calls request present
+  Right stored = IsRight caching.policy caching.most key calls request present
       (Fails origin silent start f.time target request) stored f.age
 
   at_once : Serves f.lookup f.number f.age → Right f.stored
@@ -245,8 +240,7 @@ module _ (law : StoreLaws) {caching : Caching} {origin : Origin} {silent : ℕ �
       let s = law.0 caching.policy caching.limits calls f.contents run key caching.most (asked request) present
       f.lookup f.found.sought.answer f.number f.age serves in
       let same : s.response ≡ f.stored = cc (sym s.at ∙ f.at) in
-      subst Right same
-      (
+      subst Right same (
       record {
         justified = s.justified;
         matches = s.matches;
@@ -258,8 +252,7 @@ module _ (law : StoreLaws) {caching : Caching} {origin : Origin} {silent : ℕ �
       )
 
   under : IsJustified caching.policy key calls f.stored
-  under =
-      law.1 caching.policy caching.limits calls f.contents run key f.stored
+  under = law.1 caching.policy caching.limits calls f.contents run key f.stored
       (HasUnder-responses_at _ _ _ (Has-numbered _ _ _ f.at).0)
 
   on_error : (lookup : Lookup)
@@ -272,8 +265,7 @@ module _ (law : StoreLaws) {caching : Caching} {origin : Origin} {silent : ℕ �
       let same : selected.response ≡ f.stored
       = cc (sym answer.shown ∙ ap (λ (n : ℕ). numbered n (responses_at key f.contents)) here ∙ f.at) in
       let decided : AnswersUnder caching.policy request.fields (fields_of_stored f.stored)
-      (freshness_of found.lifetime f.stored present) decisions.RevalidateOrServe
-      = rw same at found.decided in
+      (freshness_of found.lifetime f.stored present) decisions.RevalidateOrServe = rw same at found.decided in
       record {
         justified = under;
         matches = rw same at selected.is.0;
@@ -301,8 +293,7 @@ module _ (law : StoreLaws) {caching : Caching} {origin : Origin} {silent : ℕ �
   plain_first = subst (λ (t : List ℕ). IsPlain t come.request) one.target come.plain
 
   pub from : HasComeFrom caching.clock origin f.time target come.request come.came
-  from =
-      subst (λ (t : List ℕ). HasComeFrom caching.clock origin f.time t come.request come.came) one.target come.from
+  from = subst (λ (t : List ℕ). HasComeFrom caching.clock origin f.time t come.request come.came) one.target come.from
 
   -- the request with the method of the stored response
   abbrev pub asked_first : Request
@@ -335,8 +326,7 @@ module _ (law : StoreLaws) {caching : Caching} {origin : Origin} {silent : ℕ �
       let each = agree stored_lines in
       record {
         method = own_method _ _ allowed_method;
-        fields =
-            rw varies at (All-weaker (Agree (lines_at f.stored.request) request.fields)
+        fields = rw varies at (All-weaker (Agree (lines_at f.stored.request) request.fields)
             (Agree come.request.fields request.fields) each
             (field_members true (fields_of_stored f.stored (codes "vary"))) is_candidate.fields);
       }
@@ -379,17 +369,16 @@ module _ (law : StoreLaws) {caching : Caching} {origin : Origin} {silent : ℕ �
   -- so the cache finds it good enough
   pub good_at : (time left short : ℕ) → time ≤ left → left ≤ from.received → Counts counted short time f.time
       → FindsGood caching origin silent short time start f.time target request f.stored
-  good_at time left short past before aged =
-      record {
-        came = from.received;
-        since = omega (arith, past, before);
-        past = from.past;
-        received = come.kept.received ∙ from.noted.received_at;
-        freshness = freshness_of right.lifetime f.stored present;
-        fresh_for = right.fresh_for;
-        old = aged;
-        good = right.good;
-      }
+  good_at time left short past before aged = record {
+    came = from.received;
+    since = omega (arith, past, before);
+    past = from.past;
+    received = come.kept.received ∙ from.noted.received_at;
+    freshness = freshness_of right.lifetime f.stored present;
+    fresh_for = right.fresh_for;
+    old = aged;
+    good = right.good;
+  }
 
   -- a field that didn't come isn't in the reply, but for those that a cache writes
   pub lacks : (name : List ℕ) → name ≢ codes "age" → name ≢ codes "date" → from.reply.fields name ≡ []
@@ -403,14 +392,11 @@ module _ (law : StoreLaws) {caching : Caching} {origin : Origin} {silent : ℕ �
 
   governed_as : governing caching.policy.targets reply.fields
       ≡ governing caching.policy.targets (fields_of_stored come.came)
-  governed_as =
-      governed_alike (fields_of_stored come.came) reply.fields (fields_of_stored come.came)
-      (λ name hop age date. f.fields name age ∙ come.kept.fields.end_to_end name hop date)
-      (
+  governed_as = governed_alike (fields_of_stored come.came) reply.fields (fields_of_stored come.came)
+      (λ name hop age date. f.fields name age ∙ come.kept.fields.end_to_end name hop date) (
       f.fields (codes "cache-control") (λ e. absurd (cc e)) ∙ kept_control
       ∙ sym (from.noted.fields (codes "cache-control"))
-      )
-      caching.policy.targets come.allowed.fair.targeted
+      ) caching.policy.targets come.allowed.fair.targeted
 
   pub content_is : reply.content ≡ unless_head request.method from.reply.content
   content_is = grind arith
@@ -422,9 +408,8 @@ module _ (law : StoreLaws) {caching : Caching} {origin : Origin} {silent : ℕ �
       content_is ∙ ap (λ (c : List ℕ). unless_head request.method c) said ∙ once _ _ allowed_method content
 
   pub shareable : IsShareable caching.policy.kind come.request.fields (tells caching.policy reply.fields)
-  shareable =
-      subst (λ (g : Governing). IsShareable caching.policy.kind come.request.fields g.directives) (sym governed_as)
-      (by caching.policy.kind come.allowed.allowed.shareable)
+  shareable = subst (λ (g : Governing). IsShareable caching.policy.kind come.request.fields g.directives)
+      (sym governed_as) (by caching.policy.kind come.allowed.allowed.shareable)
     where
       by : (k : Kind) → IsShareable k (lines_at come.came.request) (tells caching.policy (fields_of_stored come.came))
           → IsShareable k come.request.fields (tells caching.policy (fields_of_stored come.came))
@@ -436,8 +421,7 @@ module _ (law : StoreLaws) {caching : Caching} {origin : Origin} {silent : ℕ �
   pub stores_none : (name : List ℕ) → is_known true name ≡ true → reply.fields name ≡ []
   stores_none name known =
       let not_age : name ≢ codes "age" = λ e. absurd (cc (subst (λ (n : List ℕ). is_known true n ≡ true) e known)) in
-      let not_date : name ≢ codes "date"
-      = λ e. absurd (cc (subst (λ (n : List ℕ). is_known true n ≡ true) e known)) in
+      let not_date : name ≢ codes "date" = λ e. absurd (cc (subst (λ (n : List ℕ). is_known true n ≡ true) e known)) in
       let hop : is_hop_by_hop true (connection_options (fields_of_stored come.came)) name ≡ true
       = ap (λ (b : Bool). b || is_named (connection_options (fields_of_stored come.came)) name) known in
       f.fields name not_age ∙ come.kept.fields.hop_by_hop name hop not_date

@@ -25,28 +25,26 @@ module _ (r s : LineMap) where
       → SayTheSame (lowercase name) (r (lowercase name)) (s (lowercase name))
   agreed name [] all e = absurd (cc e)
   agreed name (Malformed ∷ ms) all e = absurd (All-head (Agree r s) Malformed ms all)
-  agreed name (Whole text ∷ ms) all e =
-      elim (cases_Bool (bytes_eq (lowercase text) (lowercase name))) [
-        | inl t ↦
-            subst (λ (n : Line). SayTheSame n (r n) (s n)) ((bytes_eq-Decides (lowercase text) (lowercase name)).0 t)
-            (All-head (Agree r s) (Whole text) ms all).2
-        | inr f ↦
-            agreed name ms (All-tail (Agree r s) (Whole text) ms all)
-            (sym (ap (λ (b : Bool). b || list_any (is_same_token name) ms) f) ∙ e)
-      ]
+  agreed name (Whole text ∷ ms) all e = elim (cases_Bool (bytes_eq (lowercase text) (lowercase name))) [
+    | inl t ↦
+        subst (λ (n : Line). SayTheSame n (r n) (s n)) ((bytes_eq-Decides (lowercase text) (lowercase name)).0 t)
+        (All-head (Agree r s) (Whole text) ms all).2
+    | inr f ↦
+        agreed name ms (All-tail (Agree r s) (Whole text) ms all)
+        (sym (ap (λ (b : Bool). b || list_any (is_same_token name) ms) f) ∙ e)
+  ]
 
   pub no_star : (ms : List Member) → All (Agree r s) ms → list_any (is_same_token (codes "*")) ms ≡ true → ⊥
   no_star [] all e = cc e
   no_star (Malformed ∷ ms) all e = All-head (Agree r s) Malformed ms all
-  no_star (Whole text ∷ ms) all e =
-      elim (cases_Bool (bytes_eq (lowercase text) (codes "*"))) [
-        | inl t ↦
-            (All-head (Agree r s) (Whole text) ms all).1
-            (star_alone text ((bytes_eq-Decides (lowercase text) (codes "*")).0 t))
-        | inr f ↦
-            no_star ms (All-tail (Agree r s) (Whole text) ms all)
-            (sym (ap (λ (b : Bool). b || list_any (is_same_token (codes "*")) ms) f) ∙ e)
-      ]
+  no_star (Whole text ∷ ms) all e = elim (cases_Bool (bytes_eq (lowercase text) (codes "*"))) [
+    | inl t ↦
+        (All-head (Agree r s) (Whole text) ms all).1
+        (star_alone text ((bytes_eq-Decides (lowercase text) (codes "*")).0 t))
+    | inr f ↦
+        no_star ms (All-tail (Agree r s) (Whole text) ms all)
+        (sym (ap (λ (b : Bool). b || list_any (is_same_token (codes "*")) ms) f) ∙ e)
+  ]
 
 -- ---- the request between two that a cache takes for one
 
@@ -109,57 +107,52 @@ pairs_coding = refl
 module _ (varying : List Line) (r s : Request) (alike : AreAlike r s)
     (agree : All (Agree r.fields s.fields) (field_members true varying)) where
   abbrev middle : Request
-  middle =
-      record {
-        protocol = s.protocol;
-        method = s.method;
-        authority = s.authority;
-        content = s.content;
-        fields = between varying r.fields s.fields;
-        denied = s.denied;
-      }
+  middle = record {
+    protocol = s.protocol;
+    method = s.method;
+    authority = s.authority;
+    content = s.content;
+    fields = between varying r.fields s.fields;
+    denied = s.denied;
+  }
 
   says : (name : Line) → lowercase name ≡ name → nominates varying name ≡ true
       → SayTheSame name (r.fields name) (s.fields name)
   says name low e = rw low at (agreed r.fields s.fields name (field_members true varying) agree e)
 
   serves : Serves varying r.fields middle.fields
-  serves =
-      record {
-        no_star = λ e. no_star r.fields s.fields (field_members true varying) agree e;
-        same = λ name e. rw e refl;
-      }
+  serves = record {
+    no_star = λ e. no_star r.fields s.fields (field_members true varying) agree e;
+    same = λ name e. rw e refl;
+  }
 
   -- what is alike but for fields whose lines aren't those of `middle`
   alike_to : (p : Request) → p.protocol ≡ s.protocol → p.method ≡ s.method → p.authority ≡ s.authority
       → p.content ≡ s.content → p.denied ≡ s.denied
       → ((name : Line) → r.fields name ≡ s.fields name → p.fields name ≡ middle.fields name) → AreAlike p middle
-  alike_to p protocol method authority content denied by =
-      record {
-        protocol = protocol;
-        method = method;
-        authority = authority;
-        host = by (codes "host") alike.host;
-        expect = by (codes "expect") alike.expect;
-        content = content;
-        denied = denied;
-        content_type = by (codes "content-type") alike.content_type;
-        content_encoding = by (codes "content-encoding") alike.content_encoding;
-        content_range = λ put. by (codes "content-range") (alike.content_range (alike.method ∙ sym method ∙ put));
-        asks =
-            record {
-              if_match = by (codes "if-match") alike.asks.if_match;
-              if_none_match = by (codes "if-none-match") alike.asks.if_none_match;
-              if_modified_since = by (codes "if-modified-since") alike.asks.if_modified_since;
-              if_unmodified_since = by (codes "if-unmodified-since") alike.asks.if_unmodified_since;
-              range = by (codes "range") alike.asks.range;
-              if_range = by (codes "if-range") alike.asks.if_range;
-            };
-      }
+  alike_to p protocol method authority content denied by = record {
+    protocol = protocol;
+    method = method;
+    authority = authority;
+    host = by (codes "host") alike.host;
+    expect = by (codes "expect") alike.expect;
+    content = content;
+    denied = denied;
+    content_type = by (codes "content-type") alike.content_type;
+    content_encoding = by (codes "content-encoding") alike.content_encoding;
+    content_range = λ put. by (codes "content-range") (alike.content_range (alike.method ∙ sym method ∙ put));
+    asks = record {
+      if_match = by (codes "if-match") alike.asks.if_match;
+      if_none_match = by (codes "if-none-match") alike.asks.if_none_match;
+      if_modified_since = by (codes "if-modified-since") alike.asks.if_modified_since;
+      if_unmodified_since = by (codes "if-unmodified-since") alike.asks.if_unmodified_since;
+      range = by (codes "range") alike.asks.range;
+      if_range = by (codes "if-range") alike.asks.if_range;
+    };
+  }
 
   first : AreAlike r middle
-  first =
-      alike_to r alike.protocol alike.method alike.authority alike.content alike.denied
+  first = alike_to r alike.protocol alike.method alike.authority alike.content alike.denied
       (λ name e. either (nominates varying name) (r.fields name) (s.fields name) e)
 
   second : AreAlike s middle
@@ -182,14 +175,12 @@ module _ (varying : List Line) (r s : Request) (alike : AreAlike r s)
 -- ---- laws of a resource
 
 abbrev pub VaryIsSound : Type 0
-VaryIsSound =
-    (present : ℕ) (resource : Resource) (r s : Request) (a b : Answer) (before : LineMap)
+VaryIsSound = (present : ℕ) (resource : Resource) (r s : Request) (a b : Answer) (before : LineMap)
     → IsAnswer present resource r a → IsAnswer present resource s b → AreAlike r s → r.method ≢ codes "OPTIONS"
     → Serves (set_all before (fields_of a.fields.items) (codes "vary")) r.fields s.fields → AreSame a b
 
 abbrev pub MembersSelect : Type 0
-MembersSelect =
-    (present : ℕ) (resource : Resource) (r s : Request) (answer : Answer) → AreAlike r s
+MembersSelect = (present : ℕ) (resource : Resource) (r s : Request) (answer : Answer) → AreAlike r s
     → SelectTheSame r.fields s.fields → IsAnswer present resource r answer ↔ IsAnswer present resource s answer
 
 read_only : (stored method : List ℕ) → AllowsMethod stored method → stored ≢ codes "OPTIONS"

@@ -17,15 +17,14 @@ use Rattle.decide_resource.specs.declared.resource.Resource.{Resource}
 pub differs : (name : List ℕ) (names : List (List ℕ)) → list_any (bytes_eq name) names ≡ false
     → All (λ other. other ≢ name) names
 differs name [] none = All-nil (λ (other : List ℕ). other ≢ name)
-differs name (first ∷ rest) none =
-    elim (cases_Bool (bytes_eq name first)) [
-      | inl t ↦ absurd (cc (none, ap (λ (b : Bool). b || list_any (bytes_eq name) rest) t))
-      | inr f ↦
-          let here : first ≢ name = λ same. absurd (cc (f, (bytes_eq-Decides name first).1 (sym same))) in
-          let others : list_any (bytes_eq name) rest ≡ false
-          = sym (ap (λ (b : Bool). b || list_any (bytes_eq name) rest) f) ∙ none in
-          All-cons (λ (other : List ℕ). other ≢ name) first rest here (differs name rest others)
-    ]
+differs name (first ∷ rest) none = elim (cases_Bool (bytes_eq name first)) [
+  | inl t ↦ absurd (cc (none, ap (λ (b : Bool). b || list_any (bytes_eq name) rest) t))
+  | inr f ↦
+      let here : first ≢ name = λ same. absurd (cc (f, (bytes_eq-Decides name first).1 (sym same))) in
+      let others : list_any (bytes_eq name) rest ≡ false
+      = sym (ap (λ (b : Bool). b || list_any (bytes_eq name) rest) f) ∙ none in
+      All-cons (λ (other : List ℕ). other ≢ name) first rest here (differs name rest others)
+]
 
 pub apart : (name : List ℕ) → bytes_eq name (codes "transfer-encoding") ≡ false → name ≢ codes "transfer-encoding"
 apart name f same = absurd (cc (f, (bytes_eq-Decides name (codes "transfer-encoding")).1 same))
@@ -48,40 +47,36 @@ IsRead name =
 -- what a request asks and chooses by is in such fields
 module _ (r s : Request) (each : (name : List ℕ) → IsRead name → r.fields name ≡ s.fields name) where
   pub alike_by : r.protocol ≡ s.protocol → r.method ≡ s.method → r.authority ≡ s.authority
-      → r.fields (codes "host") ≡ s.fields (codes "host") → r.content ≡ s.content → r.denied ≡ s.denied
-      → AreAlike r s
-  alike_by protocol method authority host content denied =
-      record {
-        protocol = protocol;
-        method = method;
-        authority = authority;
-        host = host;
-        expect = each (codes "expect") (refl, refl, refl, refl, refl, refl);
-        content = content;
-        denied = denied;
-        content_type = each (codes "content-type") (refl, refl, refl, refl, refl, refl);
-        content_encoding = each (codes "content-encoding") (refl, refl, refl, refl, refl, refl);
-        content_range = λ put. each (codes "content-range") (refl, refl, refl, refl, refl, refl);
-        asks =
-            record {
-              if_match = each (codes "if-match") (refl, refl, refl, refl, refl, refl);
-              if_none_match = each (codes "if-none-match") (refl, refl, refl, refl, refl, refl);
-              if_modified_since = each (codes "if-modified-since") (refl, refl, refl, refl, refl, refl);
-              if_unmodified_since = each (codes "if-unmodified-since") (refl, refl, refl, refl, refl, refl);
-              range = each (codes "range") (refl, refl, refl, refl, refl, refl);
-              if_range = each (codes "if-range") (refl, refl, refl, refl, refl, refl);
-            };
-      }
+      → r.fields (codes "host") ≡ s.fields (codes "host") → r.content ≡ s.content → r.denied ≡ s.denied → AreAlike r s
+  alike_by protocol method authority host content denied = record {
+    protocol = protocol;
+    method = method;
+    authority = authority;
+    host = host;
+    expect = each (codes "expect") (refl, refl, refl, refl, refl, refl);
+    content = content;
+    denied = denied;
+    content_type = each (codes "content-type") (refl, refl, refl, refl, refl, refl);
+    content_encoding = each (codes "content-encoding") (refl, refl, refl, refl, refl, refl);
+    content_range = λ put. each (codes "content-range") (refl, refl, refl, refl, refl, refl);
+    asks = record {
+      if_match = each (codes "if-match") (refl, refl, refl, refl, refl, refl);
+      if_none_match = each (codes "if-none-match") (refl, refl, refl, refl, refl, refl);
+      if_modified_since = each (codes "if-modified-since") (refl, refl, refl, refl, refl, refl);
+      if_unmodified_since = each (codes "if-unmodified-since") (refl, refl, refl, refl, refl, refl);
+      range = each (codes "range") (refl, refl, refl, refl, refl, refl);
+      if_range = each (codes "if-range") (refl, refl, refl, refl, refl, refl);
+    };
+  }
 
   pub choose_by : ChooseAlike r.fields s.fields
-  choose_by =
-      record {
-        accept = each (codes "accept") (refl, refl, refl, refl, refl, refl);
-        accept_language = each (codes "accept-language") (refl, refl, refl, refl, refl, refl);
-        accept_encoding = each (codes "accept-encoding") (refl, refl, refl, refl, refl, refl);
-        origin = each (codes "origin") (refl, refl, refl, refl, refl, refl);
-        requested_method = each (codes "access-control-request-method") (refl, refl, refl, refl, refl, refl);
-      }
+  choose_by = record {
+    accept = each (codes "accept") (refl, refl, refl, refl, refl, refl);
+    accept_language = each (codes "accept-language") (refl, refl, refl, refl, refl, refl);
+    accept_encoding = each (codes "accept-encoding") (refl, refl, refl, refl, refl, refl);
+    origin = each (codes "origin") (refl, refl, refl, refl, refl, refl);
+    requested_method = each (codes "access-control-request-method") (refl, refl, refl, refl, refl, refl);
+  }
 
 -- ---- one gateway
 
@@ -92,16 +87,14 @@ module _ {gateway : Gateway} {request next : Request} (h : IsSentOn gateway requ
       let options = connection_options request.fields in
       elim (cases_Bool (is_hop_by_hop gateway.consumes_credentials options name)) [
         | inl t ↦
-            rw (is.0, t)
-            (sym (h.passed.fields name ∙ h.forwarded.fields.hop_by_hop name t (apart name is.3)))
+            rw (is.0, t) (sym (h.passed.fields name ∙ h.forwarded.fields.hop_by_hop name t (apart name is.3)))
         | inr f ↦
             rw (is.0, f) (sym (h.passed.fields name ∙ h.forwarded.fields.end_to_end name f (well_spelt _ _ is.2)
             (differs name own_names is.1)))
       ]
 
   pub alike : AreAlike (sent_directly gateway request) next
-  alike =
-      alike_by (sent_directly gateway request) next same_lines (sym h.passed.protocol) h.passed.method
+  alike = alike_by (sent_directly gateway request) next same_lines (sym h.passed.protocol) h.passed.method
       (sym h.passed.authority) (sym (h.passed.fields (codes "host") ∙ h.forwarded.fields.host)) h.passed.content
       h.passed.denied
 
@@ -127,8 +120,7 @@ module _ (gateway : Gateway) (request : Request) (modern : request.protocol ≡ 
       rw (is.0, end_to_end) refl
 
   pub direct : AreAlike request (sent_directly gateway request)
-  direct =
-      alike_by request (sent_directly gateway request) crosses modern refl origin
+  direct = alike_by request (sent_directly gateway request) crosses modern refl origin
       (sym (ap (λ (o : Option Line). replaced o (request.fields (codes "host"))) origin)) refl refl
 
   pub choose_direct : ChooseAlike request.fields (end_to_end_lines gateway request)
@@ -138,8 +130,7 @@ module _ (gateway : Gateway) (request : Request) (modern : request.protocol ≡ 
 
 -- what a law of the resource says: requests that agree on what it reads get the same answers
 abbrev pub ReadsNoMore : Type 0
-ReadsNoMore =
-    (present : ℕ) (resource : Resource) (r s : Request) (answer : Answer) → AreAlike r s
+ReadsNoMore = (present : ℕ) (resource : Resource) (r s : Request) (answer : Answer) → AreAlike r s
     → ChooseAlike r.fields s.fields → IsAnswer present resource r answer ↔ IsAnswer present resource s answer
 
 module _ (reads : ReadsNoMore) (present : ℕ) (resource : Resource) (answer : Answer) where
@@ -155,13 +146,11 @@ module _ (reads : ReadsNoMore) (present : ℕ) (resource : Resource) (answer : A
       (direct gateway next modern origin none) (choose_direct gateway next modern origin none) in
       let onward = reads present resource (sent_directly gateway next) way.0 answer (alike way.1) (choose_alike way.1)
       in
-      behind p way.0 last
-      ((λ h. onward.0 (directly.0 (first.0 h))), (λ h. first.1 (directly.1 (onward.1 h))))
+      behind p way.0 last ((λ h. onward.0 (directly.0 (first.0 h))), (λ h. first.1 (directly.1 (onward.1 h))))
       way.1.passed.protocol way.1.passed.authority (no_options way.1) gateways way.2
 
   pub invisible : (gateway : Gateway) (gateways : List Gateway) (request last : Request)
       → Reaches (gateway ∷ gateways) request last → Gets (sent_directly gateway request) ↔ Gets last
-  invisible gateway gateways request last way =
-      behind (sent_directly gateway request) way.0 last
+  invisible gateway gateways request last way = behind (sent_directly gateway request) way.0 last
       (reads present resource (sent_directly gateway request) way.0 answer (alike way.1) (choose_alike way.1))
       way.1.passed.protocol way.1.passed.authority (no_options way.1) gateways way.2

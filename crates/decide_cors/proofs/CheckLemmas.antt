@@ -33,8 +33,7 @@ from_listed text listed = list_any-from_Contains {eq = bytes_eq} bytes_equiv tex
 
 -- the CORS check, by the value of Access-Control-Allow-Origin, if the response has one
 abbrev ChecksLine : Option Line → Bool → Request → Type 0
-ChecksLine line credentials request =
-    Checks (combined (lines_if (is_some line) line))
+ChecksLine line credentials request = Checks (combined (lines_if (is_some line) line))
     (combined (lines_if (is_some line && credentials) (Some (codes "true")))) request
 
 of_listed : (listed : List Line) (credentials : Bool) (request : Request)
@@ -61,10 +60,8 @@ of_listed listed false request true e = (
 )
 
 checks_by : (origins : Option (List Line)) (credentials : Bool) (request : Request)
-    → (IsTrue credentials → origins ≢ None)
-    → ChecksLine (grant origins (Some request.origin)) credentials request
-    ↔ (IfSome origins (λ listed. Contains listed request.origin)
-    × (IsTrue request.credentials → IsTrue credentials))
+    → (IsTrue credentials → origins ≢ None) → ChecksLine (grant origins (Some request.origin)) credentials request
+    ↔ (IfSome origins (λ listed. Contains listed request.origin) × (IsTrue request.credentials → IsTrue credentials))
 checks_by None true request sound = absurd (sound refl refl)
 checks_by None false request sound = (
   λ h. (
@@ -91,8 +88,7 @@ allows_if None origin h = tt
 allows_if (Some listed) origin h = by (list_any (bytes_eq origin) listed) refl h
   where
     by : (b : Bool) → list_any (bytes_eq origin) listed ≡ b
-        → is_some (let line : Option Line = if b then Some origin else None in line) ≡ true
-        → Contains listed origin
+        → is_some (let line : Option Line = if b then Some origin else None in line) ≡ true → Contains listed origin
     by true e k = listed_from origin listed e
     by false e k = absurd (cc k)
 
@@ -121,9 +117,8 @@ lines_by policy pre line before = set_all before (grant_fields policy pre line)
 skips_vary : (policy : Policy) (pre : Bool) (sent varying : List Line) (before : LineMap) (name : List ℕ)
     → bytes_eq (codes "vary") name ≡ false
     → set_all before (fields_sent policy pre sent varying) name ≡ lines_by policy pre (granted policy sent) before name
-skips_vary policy pre sent varying before name e =
-    vary_skips (is_some policy.origins) _ (varying ++ codes "origin" ∷ [])
-    (lines_by policy pre (granted policy sent) before) name e
+skips_vary policy pre sent varying before name e = vary_skips (is_some policy.origins) _
+    (varying ++ codes "origin" ∷ []) (lines_by policy pre (granted policy sent) before) name e
 
 -- what the response has after an answer to a request from this origin
 answered : (policy : Policy) (method : List ℕ) (sent response before : LineMap) (answer : CorsAnswer) (origin : Line)
@@ -212,20 +207,18 @@ method_by (Listed methods) request no_star excludes = (
 -- any name is granted by a star, or is `authorization`
 any_name : (request : Request) (name : Line) → Excludes request
     → GrantsName request (star ∷ codes "authorization" ∷ []) name
-any_name request name excludes =
-    elim (cases_Bool (bytes_eq (lowercase name) (codes "authorization"))) [
-      | inl t ↦ inl (1, omega arith, sym ((bytes_eq-Decides _ _).0 t))
-      | inr f ↦ inr (
-        (0, omega arith, refl),
-        excludes,
-        λ e. let t = (bytes_eq-Decides (lowercase name) (codes "authorization")).1 e in cc (t, f),
-      )
-    ]
+any_name request name excludes = elim (cases_Bool (bytes_eq (lowercase name) (codes "authorization"))) [
+  | inl t ↦ inl (1, omega arith, sym ((bytes_eq-Decides _ _).0 t))
+  | inr f ↦ inr (
+    (0, omega arith, refl),
+    excludes,
+    λ e. let t = (bytes_eq-Decides (lowercase name) (codes "authorization")).1 e in cc (t, f),
+  )
+]
 
 -- a name that is granted is listed, or any name is and it isn't `authorization`, or that is allowed too
-name_by : (names : AllowedNames) (request : Request) → ¬ (ListsName names star)
-    → (IsAnyName names → Excludes request) → (name : Line)
-    → GrantsName request (listed_names names) name ↔ AdmitsName names name
+name_by : (names : AllowedNames) (request : Request) → ¬ (ListsName names star) → (IsAnyName names → Excludes request)
+    → (name : Line) → GrantsName request (listed_names names) name ↔ AdmitsName names name
 name_by Names.AnyAndAuthorization request no_star excludes name = (λ h. tt, λ k. any_name request name (excludes tt))
 name_by Names.Any request no_star excludes name = (
   λ h. elim h [
@@ -255,8 +248,7 @@ shown_by (Listed names) request no_star excludes name = (
 preflight_is : (request : Request) (method : Line) (sent : LineMap) (kind : CorsKind)
     → IsPreflightFor request method sent → IsKindOf method sent kind → is_preflight kind ≡ true
 preflight_is request method sent Preflight p k = refl
-preflight_is request method sent Plain p k =
-    absurd (k.1 (p.options, rw p.asked (omega arith)))
+preflight_is request method sent Plain p k = absurd (k.1 (p.options, rw p.asked (omega arith)))
 preflight_is request method sent NoOrigin p k = absurd (k (rw p.origin (omega arith)))
 
 -- and the request itself isn't
@@ -320,11 +312,9 @@ module _ (rules : CorsRules) (policy : Policy) (method : List ℕ) (sent respons
     (granted_is : is_some (grant policy.origins (Some request.origin)) ≡ true) where
   -- the methods and the names of the response to a preflight
   module _ (p : IsPreflightFor request method sent) where
-    passes_method : IsSomeAnd
-        (methods_in request
+    passes_method : IsSomeAnd (methods_in request
         (combined (set_all before (fields_of answer.fields.items) (codes "access-control-allow-methods"))))
-        (GrantsMethod request)
-        ↔ AllowsMethod rules request.method
+        (GrantsMethod request) ↔ AllowsMethod rules request.method
     passes_method =
         let pre = preflight_is _ _ _ _ p a.kind in
         method_at request _ policy.methods rules.methods (λ s. lawful.no_star (inl s))
@@ -347,8 +337,7 @@ module _ (rules : CorsRules) (policy : Policy) (method : List ℕ) (sent respons
   -- what the response to the request exposes
   passes_exposed : IsSentFor request sent → (name : Line) → IsSomeAnd
       (extracted (combined (set_all before (fields_of answer.fields.items) (codes "access-control-expose-headers"))))
-      (λ listed. ShowsName request listed name)
-      ↔ (¬ (IsForbidden name) × ShowsListed rules.exposed name)
+      (λ listed. ShowsName request listed name) ↔ (¬ (IsForbidden name) × ShowsListed rules.exposed name)
   passes_exposed p name =
       let pre = plain_is _ _ _ _ p a.kind in
       shown_at request _ policy.exposed rules.exposed (λ s. lawful.no_star (inr (inr s)))

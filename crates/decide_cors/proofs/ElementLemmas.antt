@@ -22,9 +22,8 @@ token_trim_behind x t =
     rw (token_front x t) (rw (token_back x t) (rw whole (take-length x)))
 
 -- Joined tokens split into the first token and pieces that the trim turns into the others.
-split_tokens : (x : List ℕ) (xs : List (List ℕ)) → IsToken x → list_all is_token xs ≡ true
-    → (rest : List (List ℕ)) × (slice_split (λ b. b == comma) (merge comma (x ∷ xs)) ≡ x ∷ rest)
-    × (map trim rest ≡ xs)
+split_tokens : (x : List ℕ) (xs : List (List ℕ)) → IsToken x → list_all is_token xs ≡ true → (rest : List (List ℕ))
+    × (slice_split (λ b. b == comma) (merge comma (x ∷ xs)) ≡ x ∷ rest) × (map trim rest ≡ xs)
 split_tokens x [] t h = (
   [],
   slice_split_none (λ b. b == comma) x (All-weaker _ (λ b. (b == comma) ≡ false) no_comma x t.1),
@@ -62,11 +61,10 @@ elements_tokens (x ∷ xs) h =
 methods_tokens : (items : List (List ℕ)) → list_all is_token (values method_of items) ≡ true
 unfolding method_of
 methods_tokens [] = refl
-methods_tokens (x ∷ xs) =
-    elim (cases_Bool (is_token x)) [
-      | inl t ↦ rw t (and_from _ _ t (methods_tokens xs))
-      | inr f ↦ rw f (methods_tokens xs)
-    ]
+methods_tokens (x ∷ xs) = elim (cases_Bool (is_token x)) [
+  | inl t ↦ rw t (and_from _ _ t (methods_tokens xs))
+  | inr f ↦ rw f (methods_tokens xs)
+]
 
 name_token : (x : List ℕ) → is_token x ≡ true → leb (length x) 65535 ≡ true → is_token (lowercase x) ≡ true
 name_token x t l = is_token-of _ (IsHeaderName-lowercase x (is_token-from x t, leb-true _ _ l)).0.0
@@ -74,14 +72,13 @@ name_token x t l = is_token-of _ (IsHeaderName-lowercase x (is_token-from x t, l
 names_tokens : (items : List (List ℕ)) → list_all is_token (values name_of items) ≡ true
 unfolding name_of
 names_tokens [] = refl
-names_tokens (x ∷ xs) =
-    elim (cases_Bool (is_token x)) [
-      | inl t ↦ elim (cases_Bool (leb (length x) 65535)) [
-        | inl l ↦ rw (t, l) (and_from _ _ (name_token x t l) (names_tokens xs))
-        | inr l ↦ rw (t, l) (names_tokens xs)
-      ]
-      | inr f ↦ rw f (names_tokens xs)
-    ]
+names_tokens (x ∷ xs) = elim (cases_Bool (is_token x)) [
+  | inl t ↦ elim (cases_Bool (leb (length x) 65535)) [
+    | inl l ↦ rw (t, l) (and_from _ _ (name_token x t l) (names_tokens xs))
+    | inr l ↦ rw (t, l) (names_tokens xs)
+  ]
+  | inr f ↦ rw f (names_tokens xs)
+]
 
 extracted_tokens : (xs : List (List ℕ)) (line : Line) → list_all is_token xs ≡ true → line ≡ merge comma xs
     → extracted (Some line) ≡ Some xs
@@ -90,13 +87,11 @@ extracted_tokens xs line h e = rw e (rw (elements_tokens xs h) (rw h refl))
 -- a browser extracts exactly the methods and the names that are listed
 pub methods_extracted : (xs : List (List ℕ)) (line : Line) → IsListOf method_of xs line
     → extracted (Some line) ≡ Some xs
-methods_extracted xs line h =
-    extracted_tokens xs line
+methods_extracted xs line h = extracted_tokens xs line
     (subst (λ (ms : List (List ℕ)). list_all is_token ms ≡ true) h.all (methods_tokens _)) h.bytes
 
 pub names_extracted : (xs : List (List ℕ)) (line : Line) → IsListOf name_of xs line → extracted (Some line) ≡ Some xs
-names_extracted xs line h =
-    extracted_tokens xs line
+names_extracted xs line h = extracted_tokens xs line
     (subst (λ (ns : List (List ℕ)). list_all is_token ns ≡ true) h.all (names_tokens _)) h.bytes
 
 -- of a star, it extracts a star

@@ -10,11 +10,9 @@ any_lines p [] = refl
 any_lines p (value ∷ values) = grind (arith, any_lines p values)
 
 -- what a request with one field line of Origin is granted
-pub granted_by : (origins : Option (List Line)) (sent : Option Line) (listed : List FieldValue) (text : Line)
-    (b : Bool) → origins ≡ Some (lines_of listed) → sent ≡ Some text
-    → b ≡ list_any (λ value. bytes_eq text value.bytes) listed
+pub granted_by : (origins : Option (List Line)) (sent : Option Line) (listed : List FieldValue) (text : Line) (b : Bool)
+    → origins ≡ Some (lines_of listed) → sent ≡ Some text → b ≡ list_any (λ value. bytes_eq text value.bytes) listed
     → (if b then Some text else None) ≡ grant origins sent
-granted_by origins sent listed text b e f r =
-    rw e (rw f (rw r
+granted_by origins sent listed text b e f r = rw e (rw f (rw r
     (ap (λ (any : Bool). let line : Option Line = if any then Some text else None in line)
     (any_lines (bytes_eq text) listed))))

@@ -10,16 +10,15 @@ use Rattle.decide_cors.proofs.SameLemmas.{some_kind}
 use denote.RawPtr.{null_ptr}
 
 abbrev pub vec : {X : Type 0} (items : List X) → length items < 2 ^ 63 → Vec X
-vec items fits =
-    record {
-      ptr = null_ptr;
-      len = length items;
-      cap = length items;
-      alloc = record { memory = record { seal = tt } };
-      items = items;
-      ok = (refl, omega arith);
-      small = fits;
-    }
+vec items fits = record {
+  ptr = null_ptr;
+  len = length items;
+  cap = length items;
+  alloc = record { memory = record { seal = tt } };
+  items = items;
+  ok = (refl, omega arith);
+  small = fits;
+}
 
 -- ---- fields that fit
 
@@ -47,11 +46,10 @@ short-append [] ys s t = t
 short-append (x ∷ xs) ys s t = (s.0, short-append xs ys s.1 t)
 
 pub fit-append : {m n : ℕ} {xs ys : List Field} → Fit m xs → Fit n ys → Fit (m + n) (xs ++ ys)
-fit-append {m} {n} {xs} {ys} s t =
-    record {
-      few = omega (arith, s.few, t.few, length-append xs ys);
-      short = short-append xs ys s.short t.short;
-    }
+fit-append {m} {n} {xs} {ys} s t = record {
+  few = omega (arith, s.few, t.few, length-append xs ys);
+  short = short-append xs ys s.short t.short;
+}
 
 -- ---- an answer's fields
 
@@ -60,11 +58,10 @@ values_read [] = refl
 values_read (line ∷ lines) = ap (λ (ls : List Line). line ∷ ls) (values_read lines)
 
 abbrev encoded : (field : Field) → length field.1 < 2 ^ 63 → Encoded
-encoded field fits =
-    record {
-      name = field.0;
-      lines = vec (map plain_value field.1) (omega (arith, fits, length-map field.1 plain_value));
-    }
+encoded field fits = record {
+  name = field.0;
+  lines = vec (map plain_value field.1) (omega (arith, fits, length-map field.1 plain_value));
+}
 
 items_of : (fields : List Field) → AreShort fields
     → (items : List Encoded) × (length items ≡ length fields) × (fields_of items ≡ fields)
@@ -88,8 +85,7 @@ few_lines false (Some line) = omega arith
 grant_fits : (policy : Policy) (pre : Bool) (line : Option Line) → Fit 6 (grant_fields policy pre line)
 grant_fits policy pre line =
     let grants = is_some line in
-    fit-more _ (few_lines grants line)
-    (fit-more _ (few_lines (grants && policy.credentials) (Some (codes "true")))
+    fit-more _ (few_lines grants line) (fit-more _ (few_lines (grants && policy.credentials) (Some (codes "true")))
     (fit-more _ (few_lines (grants && not pre) (filled_line policy.exposed))
     (fit-more _ (few_lines (grants && pre) (Some policy.methods))
     (fit-more _ (few_lines (grants && pre) (filled_line policy.names))
@@ -99,13 +95,11 @@ vary_fits : (lines : List Line) → length lines + 1 < 2 ^ 63 → (lists covers 
     (if lists then (if covers then [] else (codes "vary", lines ++ codes "origin" ∷ []) ∷ []) else [])
 vary_fits lines few false covers = fit-none 1
 vary_fits lines few true true = fit-none 1
-vary_fits lines few true false =
-    fit-more _ (omega (arith, few, length-append lines (codes "origin" ∷ []))) (fit-none 0)
+vary_fits lines few true false = fit-more _ (omega (arith, few, length-append lines (codes "origin" ∷ []))) (fit-none 0)
 
 pub policy_fits : (policy : Policy) (pre : Bool) (sent lines : List Line) → length lines + 1 < 2 ^ 63
     → Fit 7 (fields_sent policy pre sent lines)
-policy_fits policy pre sent lines few =
-    fit-append (grant_fits policy pre (granted policy sent))
+policy_fits policy pre sent lines few = fit-append (grant_fits policy pre (granted policy sent))
     (vary_fits lines few (is_some policy.origins) (covers_origin lines))
 
 pub some_answer : (policy : Policy) (method : List ℕ) (sent response : LineMap)

@@ -95,13 +95,11 @@ some_kind_with method sent origin (inl asked) true e =
 some_kind_with method sent origin (inl asked) false e =
     (Plain, (origin, λ asks. let t = (bytes_eq-Decides method (codes "OPTIONS")).1 asks.0 in cc (t, e)))
 
-some_kind_by : (method : List ℕ) (sent : LineMap)
-    → HasLine (sent (codes "origin")) ⊎ (¬ (HasLine (sent (codes "origin"))))
-    → (kind : CorsKind) × IsKindOf method sent kind
+some_kind_by : (method : List ℕ) (sent : LineMap) → HasLine (sent (codes "origin"))
+    ⊎ (¬ (HasLine (sent (codes "origin")))) → (kind : CorsKind) × IsKindOf method sent kind
 some_kind_by method sent (inr absent) = (NoOrigin, absent)
-some_kind_by method sent (inl origin) =
-    some_kind_with method sent origin (line_or_none (sent (codes "access-control-request-method")))
-    (bytes_eq method (codes "OPTIONS")) refl
+some_kind_by method sent (inl origin) = some_kind_with method sent origin
+    (line_or_none (sent (codes "access-control-request-method"))) (bytes_eq method (codes "OPTIONS")) refl
 
 -- each request is of some kind
 pub some_kind : (method : List ℕ) (sent : LineMap) → (kind : CorsKind) × IsKindOf method sent kind

@@ -9,9 +9,7 @@ host_byte_ascii : (b : ℕ) → is_host_byte b ≡ true → b < 128
 host_byte_ascii b e = search (rules, arith)
 
 pub IsUtf8-host : (host : List ℕ) → list_all is_host_byte host ≡ true → IsUtf8 host
-IsUtf8-host host e =
-    IsUtf8-from_ascii host
-    (IsAscii-from_all host
+IsUtf8-host host e = IsUtf8-from_ascii host (IsAscii-from_all host
     (All-weaker (λ b. is_host_byte b ≡ true) (λ b. b < 128) host_byte_ascii host
     (AllPass-from_list_all is_host_byte host e)))
 

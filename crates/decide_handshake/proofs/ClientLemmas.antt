@@ -66,30 +66,25 @@ module _ (sent : LineMap) (status : ℕ) (response : LineMap) where
       → only_line (response (codes "sec-websocket-accept")) ≡ accept → Decided (AcceptsKey sent response)
   accepts_decided None accept e f = never (λ h. let sends = h.sends in cc (sends, e))
   accepts_decided key None e f = never (λ h. let accepts = h.accepts in cc (accepts, f))
-  accepts_decided (Some key) (Some accept) e f =
-      alike (same_bytes accept (accept_key_of key))
-      (λ same. record { key = key; sends = e; accepts = f ∙ ap (λ (x : Line). Some x) same })
-      (λ h.
+  accepts_decided (Some key) (Some accept) e f = alike (same_bytes accept (accept_key_of key))
+      (λ same. record { key = key; sends = e; accepts = f ∙ ap (λ (x : Line). Some x) same }) (λ h.
       let own : h.key ≡ key = cc (h.sends, e) in
       let its : accept ≡ accept_key_of h.key = cc (h.accepts, f) in
       its ∙ ap (λ (x : Line). accept_key_of x) own)
 
   decided : (flaw : Flaw) → Decided (R flaw)
   decided NotSwitched = same_number status 101
-  decided NoUpgrade =
-      some_with (λ (line : Line). lowercase line ≡ codes "websocket")
+  decided NoUpgrade = some_with (λ (line : Line). lowercase line ≡ codes "websocket")
       (λ line. same_bytes (lowercase line) (codes "websocket")) (only_line (response (codes "upgrade")))
   decided NoConnection = lists_upgrade_decided response
-  decided WrongAccept =
-      accepts_decided (only_line (sent (codes "sec-websocket-key")))
+  decided WrongAccept = accepts_decided (only_line (sent (codes "sec-websocket-key")))
       (only_line (response (codes "sec-websocket-accept"))) refl refl
   decided MalformedExtensions = extensions_decided response
   decided UnaskedExtension = asked_decided sent response
   decided UnaskedProtocol = protocol_decided sent response
 
   pub some_result : (result : Checked) × Checks sent status response result
-  some_result =
-      elim (some_first flaw_number flaw_at flaw_back R at_low decided 7) [
-        | inl all ↦ (Open, λ flaw. all flaw (flaw_low flaw))
-        | inr first ↦ (Fail first.0, first.1)
-      ]
+  some_result = elim (some_first flaw_number flaw_at flaw_back R at_low decided 7) [
+    | inl all ↦ (Open, λ flaw. all flaw (flaw_low flaw))
+    | inr first ↦ (Fail first.0, first.1)
+  ]

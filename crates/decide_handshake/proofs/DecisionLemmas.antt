@@ -45,8 +45,7 @@ pub is_empty : {A : Type 0} (xs : List A) → Decided (xs ≡ [])
 is_empty [] = always refl
 is_empty (x ∷ xs) = never (λ e. cc e)
 
-pub some_with : {A : Type 0} (P : A → Type 0) → ((x : A) → Decided (P x)) → (o : Option A)
-    → Decided (IsSomeAnd o P)
+pub some_with : {A : Type 0} (P : A → Type 0) → ((x : A) → Decided (P x)) → (o : Option A) → Decided (IsSomeAnd o P)
 some_with P d None = never (λ h. h)
 some_with P d (Some x) = d x
 
@@ -91,18 +90,15 @@ cons_small b bytes low small (suc i) = small i
 first_of_bytes : (n : ℕ) (P : List ℕ → Type 0) → HasBytes (suc n) P
     → (b : ℕ) × (b < 256) × HasBytes n (λ bytes. P (b ∷ bytes))
 first_of_bytes n P ([], len, small, p) = absurd (omega (arith, len))
-first_of_bytes n P (b ∷ bytes, len, small, p) =
-    (b, small 0, (bytes, omega (arith, len), λ i. small (suc i), p))
+first_of_bytes n P (b ∷ bytes, len, small, p) = (b, small 0, (bytes, omega (arith, len), λ i. small (suc i), p))
 
 -- some bytes, so many, have a property that has a test
 some_bytes : (n : ℕ) (P : List ℕ → Type 0) → ((bytes : List ℕ) → Decided (P bytes)) → Decided (HasBytes n P)
 some_bytes zero P d = alike (d []) (λ p. ([], refl, λ i. omega arith, p)) (no_bytes P)
-some_bytes (suc n) P d =
-    alike (some_below (λ b. HasBytes n (λ bytes. P (b ∷ bytes)))
+some_bytes (suc n) P d = alike (some_below (λ b. HasBytes n (λ bytes. P (b ∷ bytes)))
     (λ b. some_bytes n (λ bytes. P (b ∷ bytes)) (λ bytes. d (b ∷ bytes))) 256)
     (λ h. (h.0 ∷ h.2.0, omega (arith, h.2.1), cons_small h.0 h.2.0 h.1 h.2.2, h.2.3)) (first_of_bytes n P)
 
 pub valid_key : (key : List ℕ) → Decided (IsValidKey key)
-valid_key key =
-    both (same_number (length key) 24)
+valid_key key = both (same_number (length key) 24)
     (some_bytes 16 (λ nonce. key ≡ base64 nonce) (λ nonce. same_bytes key (base64 nonce)))

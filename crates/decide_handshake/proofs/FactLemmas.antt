@@ -35,21 +35,18 @@ member_decided : (lines : List Line) → Decided (HasMember lines)
 member_decided lines = below 0 (length (field_members true lines))
 
 token_list : (lines : List Line) → Decided (IsTokenList lines)
-token_list lines =
-    alike (both (member_decided lines) (by_test (list_all is_token_member (field_members true lines))))
+token_list lines = alike (both (member_decided lines) (by_test (list_all is_token_member (field_members true lines))))
     (λ h. record { some = h.0; tokens = h.1 }) (λ h. (h.some, h.tokens))
 
 pub offers_decided : (request : LineMap) → Decided (OffersProtocols request)
 offers_decided request = either (is_empty (protocol_lines request)) (token_list (protocol_lines request))
 
 asks_decided : (sent : LineMap) (protocol : List ℕ) → Decided (AsksFor sent protocol)
-asks_decided sent protocol =
-    alike (both (token_list (protocol_lines sent)) (by_test (lists_protocol protocol sent)))
+asks_decided sent protocol = alike (both (token_list (protocol_lines sent)) (by_test (lists_protocol protocol sent)))
     (λ h. record { well_formed = h.0; listed = h.1 }) (λ h. (h.well_formed, h.listed))
 
 pub protocol_decided : (sent response : LineMap) → Decided (UsesAskedProtocol sent response)
-protocol_decided sent response =
-    either (is_empty (protocol_lines response))
+protocol_decided sent response = either (is_empty (protocol_lines response))
     (some_with (AsksFor sent) (asks_decided sent) (only_line (protocol_lines response)))
 
 -- ---- extensions
@@ -69,8 +66,7 @@ abbrev Means : List ℕ → ValueParts → Type 0
 Means text v = IsValue text v × IsTrue (is_token (octets_of v))
 
 means_by : (text : List ℕ) (v : ValueParts) → Decided (Means text v)
-means_by text v =
-    both (alike (both (by_test (is_value v)) (same_bytes text (value_text v)))
+means_by text v = both (alike (both (by_test (is_value v)) (same_bytes text (value_text v)))
     (λ h. record { valid = h.0; written = h.1 }) (λ h. (h.valid, h.written))) (by_test (is_token (octets_of v)))
 
 -- a value is the text, or what is inside of it
@@ -84,8 +80,7 @@ one_of_two text m = by m.value (m.is_value, m.token)
         inr (subst (λ (x : List ℕ). Means text (QuotedText x)) (sym same) h)
 
 means_token : (text : List ℕ) → Decided (MeansToken text)
-means_token text =
-    alike (either (means_by text (TokenText text)) (means_by text (QuotedText (inside text))))
+means_token text = alike (either (means_by text (TokenText text)) (means_by text (QuotedText (inside text))))
     (λ h. elim h [
       | inl t ↦ record { value = TokenText text; is_value = t.0; token = t.1 }
       | inr q ↦ record { value = QuotedText (inside text); is_value = q.0; token = q.1 }
@@ -96,8 +91,7 @@ parameter_of text None = by_test (is_token text)
 parameter_of text (Some sides) = both (by_test (is_token (trim sides.0))) (means_token (trim sides.1))
 
 parameters : (text : List ℕ) → Decided (AreParameters text)
-parameters text =
-    each (λ (parameter : List ℕ). IsParameter (trim parameter))
+parameters text = each (λ (parameter : List ℕ). IsParameter (trim parameter))
     (λ parameter. parameter_of (trim parameter) (cut equals (trim parameter))) (slice_split (λ b. b == semicolon) text)
 
 extension_of : (text : List ℕ) (sides : Option (List ℕ × List ℕ)) → Decided (IsExtensionOf text sides)
@@ -109,16 +103,14 @@ extension (Whole element) = extension_of element (cut semicolon element)
 extension Malformed = never (λ h. h)
 
 extension_list : (lines : List Line) → Decided (IsExtensionList lines)
-extension_list lines =
-    alike (both (member_decided lines) (each IsExtension extension (field_members true lines)))
+extension_list lines = alike (both (member_decided lines) (each IsExtension extension (field_members true lines)))
     (λ h. record { some = h.0; each = h.1 }) (λ h. (h.some, h.each))
 
 pub extensions_decided : (map : LineMap) → Decided (HasExtensions map)
 extensions_decided map = either (is_empty (extension_lines map)) (extension_list (extension_lines map))
 
 uses_decided : (sent response : List Line) → Decided (UsesListed sent response)
-uses_decided sent response =
-    alike (both (extension_list sent)
+uses_decided sent response = alike (both (extension_list sent)
     (by_test (list_all (is_among (field_members true sent)) (field_members true response))))
     (λ h. record { well_formed = h.0; asked = h.1 }) (λ h. (h.well_formed, h.asked))
 

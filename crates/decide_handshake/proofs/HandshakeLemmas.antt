@@ -47,8 +47,7 @@ module _ (accept : Line) (sent response : LineMap) (key : Line) (Fits : Type 0) 
   opens_by_lines : SendsKey sent key → response (codes "upgrade") ≡ codes "websocket" ∷ []
       → response (codes "connection") ≡ codes "upgrade" ∷ [] → response (codes "sec-websocket-accept") ≡ accept ∷ []
       → response (codes "sec-websocket-extensions") ≡ [] → (UsesAskedProtocol sent response → Fits)
-      → (Fits → UsesAskedProtocol sent response)
-      → IsOpened sent 101 response ↔ ((accept ≡ accept_key_of key) × Fits)
+      → (Fits → UsesAskedProtocol sent response) → IsOpened sent 101 response ↔ ((accept ≡ accept_key_of key) × Fits)
   opens_by_lines sends upgrade connection value extensions fits uses =
       let found : only_line (response (codes "sec-websocket-accept")) ≡ Some accept = ap only_line value in (
         (λ opens.
@@ -72,14 +71,12 @@ module _ (accept : Line) (sent response : LineMap) (key : Line) (Fits : Type 0) 
 opens_by_value : (accept : FieldValue) (protocol : Option FieldValue) (map response sent : LineMap) (key : Line)
     → SendsKey sent key → Carries (answer_fields (Switch accept protocol)) map response
     → IsOpened sent 101 response ↔ ((accept.bytes ≡ accept_key_of key) × FitsProtocol sent (Switch accept protocol))
-opens_by_value accept None map response sent key sends carries =
-    opens_by_lines accept.bytes sent response key ⊤ sends (carries (codes "upgrade")) (carries (codes "connection"))
-    (carries (codes "sec-websocket-accept")) (carries (codes "sec-websocket-extensions")) (λ _. tt)
-    (λ _. inl (carries (codes "sec-websocket-protocol")))
-opens_by_value accept (Some protocol) map response sent key sends carries =
-    opens_by_lines accept.bytes sent response key (AsksFor sent protocol.bytes) sends (carries (codes "upgrade"))
-    (carries (codes "connection")) (carries (codes "sec-websocket-accept"))
-    (carries (codes "sec-websocket-extensions"))
+opens_by_value accept None map response sent key sends carries = opens_by_lines accept.bytes sent response key ⊤ sends
+    (carries (codes "upgrade")) (carries (codes "connection")) (carries (codes "sec-websocket-accept"))
+    (carries (codes "sec-websocket-extensions")) (λ _. tt) (λ _. inl (carries (codes "sec-websocket-protocol")))
+opens_by_value accept (Some protocol) map response sent key sends carries = opens_by_lines accept.bytes sent response
+    key (AsksFor sent protocol.bytes) sends (carries (codes "upgrade")) (carries (codes "connection"))
+    (carries (codes "sec-websocket-accept")) (carries (codes "sec-websocket-extensions"))
     (uses_this sent response protocol.bytes (carries (codes "sec-websocket-protocol")))
     (uses_asked sent response protocol.bytes (carries (codes "sec-websocket-protocol")))
 

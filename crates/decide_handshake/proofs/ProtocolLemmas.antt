@@ -7,11 +7,10 @@ use Rattle.decide_handshake.specs.Protocols.{lists_protocol, protocol_lines, tak
 -- what is found passes the test
 found_passes : {X : Type 0} (test : X → Bool) (xs : List X) (x : X) → find test xs ≡ Some x → IsTrue (test x)
 found_passes test [] x is = absurd (cc is)
-found_passes test (y ∷ ys) x is =
-    elim (cases_Bool (test y)) [
-      | inl passes ↦ let here : Some y ≡ Some x = rw passes at is in let same : y ≡ x = cc here in rw (sym same) passes
-      | inr fails ↦ found_passes test ys x (rw fails at is)
-    ]
+found_passes test (y ∷ ys) x is = elim (cases_Bool (test y)) [
+  | inl passes ↦ let here : Some y ≡ Some x = rw passes at is in let same : y ≡ x = cc here in rw (sym same) passes
+  | inr fails ↦ found_passes test ys x (rw fails at is)
+]
 
 -- lines that list a subprotocol are some
 lists_some : (request : LineMap) (protocol : List ℕ) → OffersProtocols request

@@ -64,16 +64,14 @@ recent_by : (h : Http) → Decided (IsRecent (record { 0 = h }))
 recent_by Http11 = always (inl refl)
 recent_by H2 = always (inr (inl refl))
 recent_by H3 = always (inr (inr refl))
-recent_by h =
-    never (λ r.
-    elim r [
-      | inl same ↦ other_version h Http11 (λ e. cc e) _ _ refl refl same
-      | inr newer ↦
-          elim newer [
-            | inl same ↦ other_version h H2 (λ e. cc e) _ _ refl refl same
-            | inr same ↦ other_version h H3 (λ e. cc e) _ _ refl refl same
-          ]
-    ])
+recent_by h = never (λ r. elim r [
+  | inl same ↦ other_version h Http11 (λ e. cc e) _ _ refl refl same
+  | inr newer ↦
+      elim newer [
+        | inl same ↦ other_version h H2 (λ e. cc e) _ _ refl refl same
+        | inr same ↦ other_version h H3 (λ e. cc e) _ _ refl refl same
+      ]
+])
 
 module _ (method : List ℕ) (version : Version) (request : LineMap) (origins : OriginList) where
   -- the rules of this request, and those before a number
@@ -94,22 +92,20 @@ module _ (method : List ℕ) (version : Version) (request : LineMap) (origins : 
   pub accepted : IsGet method → IsHttp11 version → HasHost request → ListsWebsocket request → ListsUpgrade request
       → (key : Line) → HasKey request key → HasVersion13 request → OffersProtocols request → HasExtensions request
       → AllowsOrigin origins request → IsAccepted method version request origins key
-  accepted get http11 host upgrade connection key has_key version_13 protocols extensions origin =
-      record {
-        handshake =
-            record {
-              get = get;
-              http11 = http11;
-              host = host;
-              upgrade = upgrade;
-              connection = connection;
-              has_key = has_key;
-              has_version = version_13;
-              protocols = protocols;
-              extensions = extensions;
-            };
-        origin = origin;
-      }
+  accepted get http11 host upgrade connection key has_key version_13 protocols extensions origin = record {
+    handshake = record {
+      get = get;
+      http11 = http11;
+      host = host;
+      upgrade = upgrade;
+      connection = connection;
+      has_key = has_key;
+      has_version = version_13;
+      protocols = protocols;
+      extensions = extensions;
+    };
+    origin = origin;
+  }
 
   -- a request that is accepted keeps each rule
   keeps : (key : Line) → IsAccepted method version request origins key → (refusal : Refusal) → R refusal
@@ -148,14 +144,12 @@ module _ (method : List ℕ) (version : Version) (request : LineMap) (origins : 
   has_key : (found : Option Line) → only_line (request (codes "sec-websocket-key")) ≡ found
       → Decided ((key : Line) × HasKey request key)
   has_key None e = never (λ h. let only = h.1.only in cc (only, e))
-  has_key (Some key) e =
-      alike (valid_key key) (λ valid. (key, record { only = e; is_key = valid }))
+  has_key (Some key) e = alike (valid_key key) (λ valid. (key, record { only = e; is_key = valid }))
       (λ h. let same : h.0 ≡ key = cc (h.1.only, e) in subst IsValidKey same h.1.is_key)
 
   origin_decided : (listed : OriginList) → Decided (AllowsOrigin listed request)
   origin_decided None = always tt
-  origin_decided (Some origins) =
-      either (is_empty (request (codes "origin")))
+  origin_decided (Some origins) = either (is_empty (request (codes "origin")))
       (some_with (λ (text : Line). IsTrue (lists_origin origins text)) (λ text. by_test (lists_origin origins text))
       (only_line (request (codes "origin"))))
 
@@ -213,13 +207,12 @@ module _ (method : List ℕ) (version : Version) (request : LineMap) (origins : 
     refuses OtherOrigin first = first
 
     pub some_answer : (a : HandshakeAnswer) × A a
-    some_answer =
-        elim (some_first refusal_number refusal_at refusal_back R at_low decided 11) [
-          | inl all ↦
-              let a = accepts_all all in
-              (switched a.0, record { key = a.0; accepted = a.1; value = refl; picked = refl })
-          | inr first ↦ (refused first.0, refuses first.0 first.1)
-        ]
+    some_answer = elim (some_first refusal_number refusal_at refusal_back R at_low decided 11) [
+      | inl all ↦
+          let a = accepts_all all in
+          (switched a.0, record { key = a.0; accepted = a.1; value = refl; picked = refl })
+      | inr first ↦ (refused first.0, refuses first.0 first.1)
+    ]
 
     -- an answer switches only if the request is accepted
     pub switch_only : (a : HandshakeAnswer) → A a → IsSwitch a

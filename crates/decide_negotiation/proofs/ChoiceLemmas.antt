@@ -49,13 +49,12 @@ module _ {A : Type 0} (score : A → ℕ) (xs : List A) where
             let up : leader.score < score x = ltb-true leader.score (score x) e in
             record {
               bound = bound_more leader.score (score x) (omega (arith, up)) (omega arith) h.bound;
-              leads =
-                  record {
-                    within = omega arith;
-                    positive = omega (arith, up);
-                    has = here;
-                    before = λ k other low. omega (arith, h.bound k other low, up);
-                  };
+              leads = record {
+                within = omega arith;
+                positive = omega (arith, up);
+                has = here;
+                before = λ k other low. omega (arith, h.bound k other low, up);
+              };
             }
         by false e =
             let own : score x ≤ leader.score = ltb-false leader.score (score x) e in
@@ -71,13 +70,12 @@ module _ {A : Type 0} (score : A → ℕ) (xs : List A) where
       by : (place : Option ℕ) → MatchOption place (leader.score ≡ 0) (Leads (length xs) leader.score)
           → Picks score xs place
       by None none = λ k other low. omega (arith, h.bound k other low, none)
-      by (Some place) l =
-          record {
-            within = l.within;
-            positive = λ other. omega (arith, l.has other, l.positive);
-            greatest = λ k other low. omega (arith, l.has other, h.bound k other low);
-            first = λ k other low. omega (arith, l.has other, l.before k other low);
-          }
+      by (Some place) l = record {
+        within = l.within;
+        positive = λ other. omega (arith, l.has other, l.positive);
+        greatest = λ k other low. omega (arith, l.has other, h.bound k other low);
+        first = λ k other low. omega (arith, l.has other, l.before k other low);
+      }
 
   -- ---- one is picked, and only one
 
@@ -96,8 +94,7 @@ module _ {A : Type 0} (score : A → ℕ) (xs : List A) where
   picks_one None None h k = refl
   picks_one None (Some b) h k = absurd (picked_is_some b k h)
   picks_one (Some a) None h k = absurd (picked_is_some a h k)
-  picks_one (Some a) (Some b) h k =
-      grind (arith, cases_order a b, not_lower a b h k, not_lower b a k h)
+  picks_one (Some a) (Some b) h k = grind (arith, cases_order a b, not_lower a b h k, not_lower b a k h)
 
   -- who leads a part of the list, from the first on
   leader_of : (n : ℕ) → n ≤ length xs → (leader : Leader) × IsLeading n leader

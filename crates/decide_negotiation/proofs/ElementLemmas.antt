@@ -45,8 +45,7 @@ pieces-length : (separator : ℕ) (pairs : Bool) (s : List ℕ) (state : _)
     → length (pieces separator pairs state s) ≤ length s + 1
 unfolding pieces
 pieces-length separator pairs [] state = omega arith
-pieces-length separator pairs (b ∷ s) state =
-    grind (arith, cases_Bool, length-push, pieces-length separator pairs s)
+pieces-length separator pairs (b ∷ s) state = grind (arith, cases_Bool, length-push, pieces-length separator pairs s)
 
 trimmed-length : (ms : List Member) → length (members_of ms) ≤ length ms
 trimmed-length [] = omega arith

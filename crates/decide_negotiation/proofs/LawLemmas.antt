@@ -35,11 +35,10 @@ pub chooses_one : (quality : List ℕ → Quality) (offers : List FieldValue) (a
 chooses_one quality offers = picks_one (offer_rank quality) offers
 
 pub one_choice : (gives : List Member → List ℕ → Quality) → HasOneChoice gives
-one_choice gives =
-    record {
-      some = λ lines offers. picks_some (offer_rank (quality_in gives lines)) offers;
-      one = λ lines. chooses_one (quality_in gives lines);
-    }
+one_choice gives = record {
+  some = λ lines offers. picks_some (offer_rank (quality_in gives lines)) offers;
+  one = λ lines. chooses_one (quality_in gives lines);
+}
 
 -- of things of one score the first is picked
 picks_first : {A : Type 0} (xs : List A) → Picks (λ (x : A). 1001) xs (first_place xs)
@@ -83,24 +82,21 @@ ranges_match r t = (forward, back)
 
     forward : matches r t ≡ true → Matches r t
     forward e =
-        let first =
-        and_parts (is_star_or_same r.names.type_name t.names.type_name)
+        let first = and_parts (is_star_or_same r.names.type_name t.names.type_name)
         (is_star_or_same r.names.subtype t.names.subtype && are_had r.parameters t.parameters) e in
         let others =
         and_parts (is_star_or_same r.names.subtype t.names.subtype) (are_had r.parameters t.parameters) first.1 in
         record {
           type_name = name_matches _ _ first.0;
           subtype = name_matches _ _ others.0;
-          parameters = λ p among.
-              Any-more (λ (q : ParameterParts). is_same_parameter p q ≡ true) (IsSameParameter p) (same_parameter p)
-              t.parameters (Any-from_list_any (is_same_parameter p) t.parameters
+          parameters = λ p among. Any-more (λ (q : ParameterParts). is_same_parameter p q ≡ true) (IsSameParameter p)
+              (same_parameter p) t.parameters (Any-from_list_any (is_same_parameter p) t.parameters
               (All-contains (λ (p : ParameterParts). has p ≡ true) r.parameters p
               (AllPass-from_list_all has r.parameters others.1) among));
         }
 
     back : Matches r t → matches r t ≡ true
-    back h =
-        and_from (is_star_or_same r.names.type_name t.names.type_name)
+    back h = and_from (is_star_or_same r.names.type_name t.names.type_name)
         (is_star_or_same r.names.subtype t.names.subtype && are_had r.parameters t.parameters)
         (name_matching _ _ h.type_name) (and_from (is_star_or_same r.names.subtype t.names.subtype)
         (are_had r.parameters t.parameters) (name_matching _ _ h.subtype) (list_all-from_AllPass has r.parameters
@@ -158,8 +154,7 @@ said_by f (member ∷ field) p h = by (f member) refl (said_by f field p) h
         → Contains (cons_option said (filter_map f field)) p
         → Any (λ (other : Member). f other ≡ Some p) (member ∷ field)
     by None e later h = Any-later (λ (other : Member). f other ≡ Some p) member field (later h)
-    by (Some first) e later (zero, low, is) =
-        (0, member, omega arith, refl, e ∙ ap (λ (q : Preference). Some q) is)
+    by (Some first) e later (zero, low, is) = (0, member, omega arith, refl, e ∙ ap (λ (q : Preference). Some q) is)
     by (Some first) e later (suc k, low, is) =
         Any-later (λ (other : Member). f other ≡ Some p) member field (later (k, omega (arith, low), is))
 
@@ -223,9 +218,8 @@ module _ (field : List Member) (offers : List FieldValue) where
       let elements : Some h.element ≡ Some k.element =
       sym (h.is Malformed) ∙ ap (λ (n : ℕ). language_element_of (get_or field n Malformed)) index ∙ k.is Malformed in
       let element : h.element ≡ k.element = cc elements in
-      let places : Some a ≡ Some b =
-      picks_one (offer_nearness field (Some h.element.range)) offers (Some a) (Some b) h.nearest
-      (rw (← element) at k.nearest) in
+      let places : Some a ≡ Some b = picks_one (offer_nearness field (Some h.element.range)) offers (Some a) (Some b)
+      h.nearest (rw (← element) at k.nearest) in
       cc places
 
   not_both : (a : ℕ) → IsLookedUp field offers a → ¬ (Finds field offers None)
@@ -273,12 +267,10 @@ module _ (field : List Member) (offers : List FieldValue) where
     where
       by : (o : Option ElementParts) → language_element_of (get_or field index Malformed) ≡ o
           → (place : ℕ) × IsLookedUp field offers place
-      by None is =
-          absurd
+      by None is = absurd
           (omega (arith, no_element field offers (get_or field index Malformed) is, first.positive Malformed))
       by (Some e) is =
-          let nearest =
-          nearest_some (get_or field index Malformed) e is (first.positive Malformed) in (
+          let nearest = nearest_some (get_or field index Malformed) e is (first.positive Malformed) in (
             nearest.0,
             record {
               index = index;

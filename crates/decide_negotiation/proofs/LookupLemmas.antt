@@ -48,13 +48,11 @@ module _ (field : List Member) (offers : List FieldValue) (member : Member) wher
     pub range_finds : (place : ℕ) → is_star e.range ≡ false
         → IsFirstOfGreatest (offer_nearness field (Some e.range)) offers place
         → FoundBy field offers member (record { place = Some place; score = e.weight })
-    range_finds place range h =
-        record {
-          score =
-              sym (weight_is
-              ∙ rw (range, one_scores (offer_nearness field (Some e.range)) offers place h.within h.positive) refl);
-          place = λ some. (e, place, is, refl, h);
-        }
+    range_finds place range h = record {
+      score = sym (weight_is
+          ∙ rw (range, one_scores (offer_nearness field (Some e.range)) offers place h.within h.positive) refl);
+      place = λ some. (e, place, is, refl, h);
+    }
 
 -- ---- what all find
 
@@ -82,16 +80,15 @@ module _ (field : List Member) (offers : List FieldValue) where
     pub follows : Follows indices.place leader.place
 
   pub so_far_none : SoFar field (record { place = None; score = 0 })
-  so_far_none =
-      record {
-        n = 0;
-        within = omega arith;
-        rest = refl;
-        indices = record { place = None; score = 0 };
-        leading = none_leads (range_weight field offers) field;
-        score = refl;
-        follows = tt;
-      }
+  so_far_none = record {
+    n = 0;
+    within = omega arith;
+    rest = refl;
+    indices = record { place = None; score = 0 };
+    leading = none_leads (range_weight field offers) field;
+    score = refl;
+    follows = tt;
+  }
 
   -- the leader goes on with one more member
   step : (n : ℕ) (indices : Leader) (place found : Option ℕ) (member : Member) (rest : List Member)
@@ -99,8 +96,7 @@ module _ (field : List Member) (offers : List FieldValue) where
       → IsLeading (range_weight field offers) field n indices → Follows indices.place place
       → (0 < range_weight field offers member
       → (e : ElementParts) × (p : ℕ) × (language_element_of member ≡ Some e) × (found ≡ Some p)
-      × IsFirstOfGreatest (offer_nearness field (Some e.range)) offers p)
-      → rest ≡ drop (n + 1) field
+      × IsFirstOfGreatest (offer_nearness field (Some e.range)) offers p) → rest ≡ drop (n + 1) field
       → SoFar rest (led (record { place = place; score = indices.score }) found (range_weight field offers member))
   step n indices place found member rest within is leading follows finds cut =
       by (nat_lt indices.score (range_weight field offers member)) refl
@@ -108,8 +104,7 @@ module _ (field : List Member) (offers : List FieldValue) where
     where
       by : (more : Bool) → nat_lt indices.score (range_weight field offers member) ≡ more
           → IsLeading (range_weight field offers) field (n + 1)
-          (if more then record { place = Some n; score = range_weight field offers member } else indices)
-          → SoFar rest
+          (if more then record { place = Some n; score = range_weight field offers member } else indices) → SoFar rest
           (if more then record { place = found; score = range_weight field offers member }
           else record { place = place; score = indices.score })
       by true e lead =
@@ -123,27 +118,24 @@ module _ (field : List Member) (offers : List FieldValue) where
             indices = record { place = Some n; score = range_weight field offers member };
             leading = lead;
             score = refl;
-            follows =
-                subst (Follows (Some n)) (sym by_member.3) (
-                  by_member.0,
-                  λ other. ap language_element_of (at_place field n other member within ∙ sym is) ∙ by_member.2,
-                  by_member.4,
-                );
+            follows = subst (Follows (Some n)) (sym by_member.3) (
+              by_member.0,
+              λ other. ap language_element_of (at_place field n other member within ∙ sym is) ∙ by_member.2,
+              by_member.4,
+            );
           }
-      by false e lead =
-          record {
-            n = n + 1;
-            within = omega (arith, within);
-            rest = cut;
-            indices = indices;
-            leading = lead;
-            score = refl;
-            follows = follows;
-          }
+      by false e lead = record {
+        n = n + 1;
+        within = omega (arith, within);
+        rest = cut;
+        indices = indices;
+        leading = lead;
+        score = refl;
+        follows = follows;
+      }
 
   pub so_far_more : (left rest : List Member) (member : Member) (leader found : Leader) → SoFar left leader
-      → left ≡ member ∷ rest → FoundBy field offers member found
-      → SoFar rest (led leader found.place found.score)
+      → left ≡ member ∷ rest → FoundBy field offers member found → SoFar rest (led leader found.place found.score)
   so_far_more left rest member leader found h cut by_member =
       let lengths : suc (length rest) ≡ length (drop h.n field) = ap length (sym cut ∙ h.rest) in
       let low : h.n < length field = omega (arith, lengths, length-drop h.n field) in

@@ -49,18 +49,15 @@ widen x y xs p h = by (is_below x y) refl h
         let second : AtMost y p = All-head (λ (other : Preference). AtMost other p) y xs h.greatest in
         record {
           among = Contains-later x y xs p h.among;
-          greatest =
-              All-cons (λ (other : Preference). AtMost other p) x (y ∷ xs)
+          greatest = All-cons (λ (other : Preference). AtMost other p) x (y ∷ xs)
               (at_most_along x y p (is_below-true x y e) second) h.greatest;
         }
     by false e h =
         let first : AtMost x p = All-head (λ (other : Preference). AtMost other p) x xs h.greatest in
         record {
           among = Contains-beside x y xs p h.among;
-          greatest =
-              All-cons (λ (other : Preference). AtMost other p) x (y ∷ xs) first
-              (All-cons (λ (other : Preference). AtMost other p) y xs
-              (at_most_along y x p (is_below-false x y e) first)
+          greatest = All-cons (λ (other : Preference). AtMost other p) x (y ∷ xs) first
+              (All-cons (λ (other : Preference). AtMost other p) y xs (at_most_along y x p (is_below-false x y e) first)
               (All-tail (λ (other : Preference). AtMost other p) x xs h.greatest));
         }
 

@@ -107,8 +107,7 @@ abbrev IsLow : Preference → Type 0
 IsLow p = p.quality ≤ 1000
 
 coding_range : (coding : List ℕ) (member : Member) → IfSome (coding_says coding member) IsLow
-coding_range coding member =
-    then_some IsLow (says_of coding) IsUpTo1 (bare_element_of member) (bare_range member)
+coding_range coding member = then_some IsLow (says_of coding) IsUpTo1 (bare_element_of member) (bare_range member)
     (λ e low. either IsLow (is_star e.range) _ _ low (either IsLow (is_same_coding e.range coding) _ None low tt))
 
 language_range : (tag : List ℕ) (member : Member) → IfSome (language_says tag member) IsLow
@@ -121,15 +120,13 @@ IsLowRange r = r.weight ≤ 1000
 
 media_range_range : (text : List ℕ) → IfSome (media_range_in text) IsLowRange
 unfolding media_range_in
-media_range_range text =
-    then_some IsLowRange (λ e. option_and_then (if_range e) (names_in e.range)) IsUpTo1 (element_in text)
-    (element_range _) (λ e low. then_any IsLowRange (if_range e) (names_in e.range)
+media_range_range text = then_some IsLowRange (λ e. option_and_then (if_range e) (names_in e.range)) IsUpTo1
+    (element_in text) (element_range _) (λ e low. then_any IsLowRange (if_range e) (names_in e.range)
     (λ n. either IsLowRange (is_range n) _ None low tt))
 
 says_range : (offer text : List ℕ) → IfSome (says_in offer text) IsLow
-says_range offer text =
-    then_some IsLow (λ r. option_and_then (media_says_of r) (media_type_in offer)) IsLowRange (media_range_in text)
-    (media_range_range _) (λ r low. then_any IsLow (media_says_of r) (media_type_in offer)
+says_range offer text = then_some IsLow (λ r. option_and_then (media_says_of r) (media_type_in offer)) IsLowRange
+    (media_range_in text) (media_range_range _) (λ r low. then_any IsLow (media_says_of r) (media_type_in offer)
     (λ t. either IsLow (matches r t) _ None low tt))
 
 media_range : (offer : List ℕ) (member : Member) → IfSome (media_type_says offer member) IsLow

@@ -26,18 +26,16 @@ module _ (present : ℕ) (plan : Plan) (is_known : Bool) (resource : TargetState
       set before (codes "etag", lines_sent (λ (tag : FieldValue). tag.bytes) (etag_sent plan (etag_of resource)))
 
   abbrev with_modified : LineMap
-  with_modified =
-      set with_etag (
-        codes "last-modified",
-        lines_sent fixdate (not_after present (modified_sent plan is_known (etag_of resource) (modified_of resource))),
-      )
+  with_modified = set with_etag (
+    codes "last-modified",
+    lines_sent fixdate (not_after present (modified_sent plan is_known (etag_of resource) (modified_of resource))),
+  )
 
   abbrev with_units : LineMap
-  with_units =
-      set with_modified (
-        codes "accept-ranges",
-        lines_sent (λ (units : Line). units) (units_sent plan (is_divisible content)),
-      )
+  with_units = set with_modified (
+    codes "accept-ranges",
+    lines_sent (λ (units : Line). units) (units_sent plan (is_divisible content)),
+  )
 
   abbrev with_range : LineMap
   with_range = set with_units (codes "content-range", lines_sent content_text (range_sent plan content.len))
@@ -46,11 +44,10 @@ module _ (present : ℕ) (plan : Plan) (is_known : Bool) (resource : TargetState
   with_length = set with_range (codes "content-length", lines_sent decimal (length_sent plan content.len))
 
   abbrev with_type : LineMap
-  with_type =
-      set with_length (
-        codes "content-type",
-        lines_sent (λ (line : FieldValue). line.bytes) (type_sent plan is_known content.media_type multipart),
-      )
+  with_type = set with_length (
+    codes "content-type",
+    lines_sent (λ (line : FieldValue). line.bytes) (type_sent plan is_known content.media_type multipart),
+  )
 
   others : (name : List ℕ) → All (λ own. own ≢ name) sent_names → with_type name ≡ before name
   others name h =
@@ -69,14 +66,12 @@ module _ (present : ℕ) (plan : Plan) (is_known : Bool) (resource : TargetState
 
   others_digested : (lines : LineMap) (name : List ℕ) → All (λ own. own ≢ name) sent_names
       → without_digests lines name ≡ lines name
-  others_digested lines name h =
-      set-other (set lines (codes "content-digest", [])) _ name (h 8 [] (omega arith))
+  others_digested lines name h = set-other (set lines (codes "content-digest", [])) _ name (h 8 [] (omega arith))
       ∙ set-other lines _ name (h 7 [] (omega arith))
 
   -- what is removed by the two answers
   abbrev removed : Bool → Bool → List Field
-  removed encoded whole =
-      (if encoded then [] else (codes "content-encoding", []) ∷ [])
+  removed encoded whole = (if encoded then [] else (codes "content-encoding", []) ∷ [])
       ++ (if whole then [] else (codes "content-digest", []) ∷ (codes "content-md5", []) ∷ [])
 
   removed_by : (encoded whole : Bool) → keeps_encoding plan is_known ≡ encoded → is_whole plan ≡ whole
@@ -85,11 +80,9 @@ module _ (present : ℕ) (plan : Plan) (is_known : Bool) (resource : TargetState
 
   finished : (encoded whole : Bool) → keeps_encoding plan is_known ≡ encoded → is_whole plan ≡ whole
       → Sends (set_all with_type (fields_removed plan is_known))
-  finished true true e w =
-      subst (λ (l : List Field). Sends (set_all with_type l)) (sym (removed_by true true e w))
+  finished true true e w = subst (λ (l : List Field). Sends (set_all with_type l)) (sym (removed_by true true e w))
       (grind (arith, others))
-  finished true false e w =
-      subst (λ (l : List Field). Sends (set_all with_type l)) (sym (removed_by true false e w))
+  finished true false e w = subst (λ (l : List Field). Sends (set_all with_type l)) (sym (removed_by true false e w))
       record {
         etag = refl;
         last_modified = refl;
@@ -102,11 +95,9 @@ module _ (present : ℕ) (plan : Plan) (is_known : Bool) (resource : TargetState
         content_md5 = rw w refl;
         others = λ name h. others_digested with_type name h ∙ others name h;
       }
-  finished false true e w =
-      subst (λ (l : List Field). Sends (set_all with_type l)) (sym (removed_by false true e w))
+  finished false true e w = subst (λ (l : List Field). Sends (set_all with_type l)) (sym (removed_by false true e w))
       (grind (arith, others_encoded))
-  finished false false e w =
-      subst (λ (l : List Field). Sends (set_all with_type l)) (sym (removed_by false false e w))
+  finished false false e w = subst (λ (l : List Field). Sends (set_all with_type l)) (sym (removed_by false false e w))
       record {
         etag = refl;
         last_modified = refl;

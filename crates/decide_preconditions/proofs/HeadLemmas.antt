@@ -23,12 +23,11 @@ never_unconditional method h1 h2 = grind arith
 
 ignored_alike : (resource : TargetState) → AreIgnored resource (codes "HEAD") ↔ AreIgnored resource (codes "GET")
 ignored_alike Missing = ((λ h. inr get_is_read), (λ h. inr head_is_read))
-ignored_alike resource =
-    grind (
-      arith,
-      never_unconditional (codes "GET") get_is_read,
-      never_unconditional (codes "HEAD") head_is_read,
-    )
+ignored_alike resource = grind (
+  arith,
+  never_unconditional (codes "GET") get_is_read,
+  never_unconditional (codes "HEAD") head_is_read,
+)
 
 -- Range applies to no HEAD, and to no request without it
 none_of_head : (present : ℕ) (request : LineMap) (current : Validators) (len : ℕ) (set : List ℕ)

@@ -36,22 +36,20 @@ after_lower : (v w : ℕ) (ds es : List ℕ) → length ds ≡ length es → lis
 after_lower v w [] [] e h k l = l
 after_lower v w [] (c ∷ es) e h k l = absurd (omega (arith, e))
 after_lower v w (b ∷ ds) [] e h k l = absurd (omega (arith, e))
-after_lower v w (b ∷ ds) (c ∷ es) e h k l =
-    grind (
-      arith,
-      first_digit,
-      digit_of,
-      digit_low,
-      digit_value,
-      after_lower (v * 10 + digit_value b) (w * 10 +
-          digit_value c) ds es (omega (arith, e)) (first_digit b ds h).1 (first_digit c es k).1 (omega (
-            arith,
-            l,
-            (digit_of b
-                (first_digit b ds h).0),
-            ((digit_low b (first_digit b ds h).0).1),
-          )),
-    )
+after_lower v w (b ∷ ds) (c ∷ es) e h k l = grind (
+  arith,
+  first_digit,
+  digit_of,
+  digit_low,
+  digit_value,
+  after_lower (v * 10 + digit_value b) (w * 10 +
+      digit_value c) ds es (omega (arith, e)) (first_digit b ds h).1 (first_digit c es k).1 (omega (
+        arith,
+        l,
+        (digit_of b (first_digit b ds h).0),
+        ((digit_low b (first_digit b ds h).0).1),
+      )),
+)
 
 -- more digits after a number above zero write a greater number than fewer digits
 fewer_lower : (w : ℕ) (ds es : List ℕ) → length ds < length es → list_all is_ascii_digit ds ≡ true
@@ -122,27 +120,25 @@ digits_without : (digits : List ℕ) → list_all is_ascii_digit digits ≡ true
     → list_all is_ascii_digit (without_zeros digits) ≡ true
 unfolding without_zeros
 digits_without [] h = refl
-digits_without (b ∷ digits) h =
-    grind (arith, cases_Bool, first_digit, digits_without digits (first_digit b digits h).1)
+digits_without (b ∷ digits) h = grind (arith, cases_Bool, first_digit, digits_without digits (first_digit b digits h).1)
 
 shorter_lower : (ds es : List ℕ) → length ds < length es → list_all is_ascii_digit ds ≡ true
     → list_all is_ascii_digit es ≡ true → NoZero es → digits_value 10 ds < digits_value 10 es
-shorter_lower ds es e h k z =
-    grind (
-      arith,
-      first_digit,
-      digit_of,
-      digit_low,
-      eqb-false,
-      digit_value,
-      cases_order,
-      cases_Bool,
-      nat_lt,
-      fewer_lower,
-      ltb-true,
-      ltb-false,
-      after_lower,
-    )
+shorter_lower ds es e h k z = grind (
+  arith,
+  first_digit,
+  digit_of,
+  digit_low,
+  eqb-false,
+  digit_value,
+  cases_order,
+  cases_Bool,
+  nat_lt,
+  fewer_lower,
+  ltb-true,
+  ltb-false,
+  after_lower,
+)
 
 ordered_is : (ds es : List ℕ) → list_all is_ascii_digit ds ≡ true → list_all is_ascii_digit es ≡ true
     → NoZero ds → NoZero es → is_ordered ds es ≡ nat_le (digits_value 10 ds) (digits_value 10 es)
@@ -152,16 +148,15 @@ ordered_is ds es h k y z =
 -- the order of two numerals is that of their numbers
 pub order_of_numerals : (ds es : List ℕ) → is_numeral ds ≡ true → is_numeral es ≡ true
     → is_ordered (without_zeros ds) (without_zeros es) ≡ nat_le (digits_value 10 ds) (digits_value 10 es)
-order_of_numerals ds es h k =
-    grind (
-      arith,
-      and_parts,
-      nat_lt,
-      is_ascii_digit,
-      ordered_is,
-      digits_without,
-      no_zero,
-      nat_le,
-      digits_value,
-      value_without,
-    )
+order_of_numerals ds es h k = grind (
+  arith,
+  and_parts,
+  nat_lt,
+  is_ascii_digit,
+  ordered_is,
+  digits_without,
+  no_zero,
+  nat_le,
+  digits_value,
+  value_without,
+)

@@ -48,8 +48,7 @@ module _ (present : ℕ) (method : List ℕ) (request : LineMap) (resource : Tar
     (limits : RangeLimits) where
   -- a read, and what it asks for
   abbrev IsReadOf : Plan → Type 0
-  IsReadOf plan =
-      (current : Validators) × Reads present method request resource current
+  IsReadOf plan = (current : Validators) × Reads present method request resource current
       × Covers present method request current len limits (asked_of plan)
 
   abbrev IsOwnPlan : Plan → Type 0
@@ -85,8 +84,7 @@ module _ (present : ℕ) (method : List ℕ) (request : LineMap) (resource : Tar
   same_asked Failed q e h k = grind arith
   same_asked p q e h k = same_read p q (reads p h refl) (reads q k (sym e))
 
-  one_of_two : (p q : Plan) → IsOwnPlan p → IsOwnPlan q
-      → (status_of p ≡ status_of q) × (parts_sent p ≡ parts_sent q)
+  one_of_two : (p q : Plan) → IsOwnPlan p → IsOwnPlan q → (status_of p ≡ status_of q) × (parts_sent p ≡ parts_sent q)
   one_of_two p q h k =
       let answer : answer_of p ≡ answer_of q = one_answer present request resource method (answer_of p) (answer_of q)
       (answers p h) (answers q k) in
@@ -99,8 +97,7 @@ module _ (present : ℕ) (method : List ℕ) (request : LineMap) (resource : Tar
       )
 
   -- a plan is of a read, or of what isn't performed
-  none_or_some : (plan : Plan) → IsPlanned present method request resource len limits None
-      → ¬ (IsOwnPlan plan)
+  none_or_some : (plan : Plan) → IsPlanned present method request resource len limits None → ¬ (IsOwnPlan plan)
   none_or_some plan none h =
       let answer : answer_of plan ≡ precondition.Perform =
       one_answer present request resource method (answer_of plan) precondition.Perform (answers plan h) none.0 in
@@ -131,16 +128,15 @@ module _ (present : ℕ) (method : List ℕ) (request : LineMap) (len : ℕ) (li
   planned resource precondition.Failed h = inl h
   planned resource precondition.NotModified h = inr (inl h)
   planned TargetState.Missing precondition.Perform h = inr (inr (inl (h, inl refl)))
-  planned (TargetState.Current current) precondition.Perform h =
-      elim (read_or_not method) [
-        | inl read ↦
-            inr (inr (inr (
-              current,
-              record { performs = h; is_read = read; is_current = refl },
-              some_selection present method request current len limits,
-            )))
-        | inr other ↦ inr (inr (inl (h, inr other)))
-      ]
+  planned (TargetState.Current current) precondition.Perform h = elim (read_or_not method) [
+    | inl read ↦
+        inr (inr (inr (
+          current,
+          record { performs = h; is_read = read; is_current = refl },
+          some_selection present method request current len limits,
+        )))
+    | inr other ↦ inr (inr (inl (h, inr other)))
+  ]
 
   pub some_plan : (resource : TargetState) → HasPlan present method request resource len limits
   some_plan resource =

@@ -50,8 +50,7 @@ among P (x ∷ xs) a = ⊎_elim (λ here. inl here) (λ later. inr (among P xs l
 
 pub any_among : {X : Type 0} (P : X → Type 0) (xs : List X) → Among P xs → Any P xs
 any_among P [] i = absurd i
-any_among P (x ∷ xs) i =
-    ⊎_elim (any_here P x xs) (λ later. any_later P x xs (any_among P xs later)) i
+any_among P (x ∷ xs) i = ⊎_elim (any_here P x xs) (λ later. any_later P x xs (any_among P xs later)) i
 
 -- one of the parts holds the position
 abbrev In : ℕ → List Part → Type 0
@@ -88,8 +87,7 @@ spread_from len gap low (part ∷ rest) from h = (
   from 0 part (omega arith),
   h.within 0 part (omega arith),
   spread_from len gap (part.last + gap + 2) rest
-      (λ k d l. let apart = h.apart 0 (suc k) d (omega arith) (omega arith) in omega (arith, apart))
-      record {
+      (λ k d l. let apart = h.apart 0 (suc k) d (omega arith) (omega arith) in omega (arith, apart)) record {
         within = λ k d l. h.within (suc k) d (omega arith);
         apart = λ i j d l m. h.apart (suc i) (suc j) d (omega arith) (omega arith);
       },
@@ -101,8 +99,7 @@ spread len gap parts h = spread_from len gap 0 parts (λ k d l. omega arith) h
 
 starts : (len gap low : ℕ) (parts : List Part) → Spread len gap low parts → All (λ part. low ≤ part.first) parts
 starts len gap low [] h = λ k d l. absurd (omega (arith, l))
-starts len gap low (part ∷ rest) h =
-    All-cons (λ p. low ≤ p.first) part rest h.0
+starts len gap low (part ∷ rest) h = All-cons (λ p. low ≤ p.first) part rest h.0
     (starts len gap low rest (spread_lower len gap low (part.last + gap + 2) rest (omega arith) h.2))
 
 coalesced_by : (len gap low : ℕ) (parts : List Part) → Spread len gap low parts → AreCoalesced len gap parts
@@ -120,32 +117,30 @@ rises_lower low part (next ∷ rest) l h = (omega (arith, h.0), h.1)
 merged_spread : (len gap low : ℕ) (part : Part) (rest : List Part) → low ≤ part.first → IsPartOf len part
     → Rises part.first rest → All (IsPartOf len) rest → Spread len gap low (merged_from gap part rest)
 merged_spread len gap low part [] l h up all = (l, h, tt)
-merged_spread len gap low part (next ∷ rest) l h up all =
-    grind (
-      arith,
-      cases_Bool,
-      nat_le,
-      leb-false,
-      rises_lower,
-      merged_spread len gap low (joined part next) rest,
-      merged_spread len gap (part.last + gap + 2) next rest,
-      All-head (IsPartOf len) next rest all,
-      All-tail (IsPartOf len) next rest all,
-    )
+merged_spread len gap low part (next ∷ rest) l h up all = grind (
+  arith,
+  cases_Bool,
+  nat_le,
+  leb-false,
+  rises_lower,
+  merged_spread len gap low (joined part next) rest,
+  merged_spread len gap (part.last + gap + 2) next rest,
+  All-head (IsPartOf len) next rest all,
+  All-tail (IsPartOf len) next rest all,
+)
 
 -- joined parts hold what the parts do
 merged_holds : (gap p : ℕ) (part : Part) (rest : List Part) → Rises part.first rest → In p (part ∷ rest)
     → In p (merged_from gap part rest)
 merged_holds gap p part [] up i = i
-merged_holds gap p part (next ∷ rest) up i =
-    grind (
-      arith,
-      cases_Bool,
-      nat_le,
-      rises_lower,
-      merged_holds gap p (joined part next) rest,
-      merged_holds gap p next rest,
-    )
+merged_holds gap p part (next ∷ rest) up i = grind (
+  arith,
+  cases_Bool,
+  nat_le,
+  rises_lower,
+  merged_holds gap p (joined part next) rest,
+  merged_holds gap p next rest,
+)
 
 -- a position of which P holds is joined to itself
 pub joined_itself : (gap : ℕ) (P : ℕ → Type 0) (p : ℕ) → P p → IsJoined gap P p
@@ -155,24 +150,23 @@ joined_itself gap P p h = grind (arith)
 joined_holds : (gap : ℕ) (P : ℕ → Type 0) (part next : Part) (p : ℕ) → next.first ≤ part.last + gap + 1
     → ((q : ℕ) → Holds q part → IsJoined gap P q) → ((q : ℕ) → Holds q next → P q) → P part.last → P next.first
     → Holds p (joined part next) → IsJoined gap P p
-joined_holds gap P part next p close covered follows last first h =
-    elim (cases_lt part.last p) [
-      | inr high ↦ covered p (omega arith, omega (arith, high))
-      | inl past ↦
-          elim (cases_lt p next.first) [
-            | inr from ↦ joined_itself gap P p (follows p (omega (arith, from), omega arith))
-            | inl ahead ↦
-                record {
-                  before = part.last;
-                  after = next.first;
-                  is_before = last;
-                  is_after = first;
-                  low = omega (arith, past);
-                  high = omega (arith, ahead);
-                  close = close;
-                }
-          ]
-    ]
+joined_holds gap P part next p close covered follows last first h = elim (cases_lt part.last p) [
+  | inr high ↦ covered p (omega arith, omega (arith, high))
+  | inl past ↦
+      elim (cases_lt p next.first) [
+        | inr from ↦ joined_itself gap P p (follows p (omega (arith, from), omega arith))
+        | inl ahead ↦
+            record {
+              before = part.last;
+              after = next.first;
+              is_before = last;
+              is_after = first;
+              low = omega (arith, past);
+              high = omega (arith, ahead);
+              close = close;
+            }
+      ]
+]
 
 -- what joined parts hold is joined to positions of the parts
 merged_joins : (gap : ℕ) (P : ℕ → Type 0) (part : Part) (rest : List Part) (p : ℕ)
@@ -206,13 +200,12 @@ holds_from len gap low p (part ∷ rest) h i = grind (arith, holds_from len gap 
 gap_held : (len gap low a b p : ℕ) (parts : List Part) → Spread len gap low parts → In a parts → In b parts → a ≤ p
     → p ≤ b → b ≤ a + gap + 1 → In p parts
 gap_held len gap low a b p [] h i j l m close = i
-gap_held len gap low a b p (part ∷ rest) h i j l m close =
-    grind (
-      arith,
-      holds_from len gap (part.last + gap + 2) a rest,
-      holds_from len gap (part.last + gap + 2) b rest,
-      gap_held len gap (part.last + gap + 2) a b p rest,
-    )
+gap_held len gap low a b p (part ∷ rest) h i j l m close = grind (
+  arith,
+  holds_from len gap (part.last + gap + 2) a rest,
+  holds_from len gap (part.last + gap + 2) b rest,
+  gap_held len gap (part.last + gap + 2) a b p rest,
+)
 
 pub sizes_from : (len gap low : ℕ) (parts : List Part) → Spread len gap low parts → low ≤ len
     → low + sum_by part_size parts ≤ len
@@ -228,15 +221,14 @@ sizes_from len gap low (part ∷ rest) h l =
 covers_first : (len gap l m : ℕ) (x y : Part) (xs ys : List Part) → Spread len gap l (x ∷ xs)
     → Spread len gap m (y ∷ ys) → ((p : ℕ) → In p (x ∷ xs) → In p (y ∷ ys))
     → (y.first ≤ x.first) × (x.first ≡ y.first → x.last ≤ y.last)
-covers_first len gap l m x y xs ys h k covers =
-    grind (
-      arith,
-      cases_lt y.last x.last,
-      covers x.first,
-      covers (y.last + 1),
-      holds_from len gap (y.last + gap + 2) x.first ys,
-      holds_from len gap (y.last + gap + 2) (y.last + 1) ys,
-    )
+covers_first len gap l m x y xs ys h k covers = grind (
+  arith,
+  cases_lt y.last x.last,
+  covers x.first,
+  covers (y.last + 1),
+  holds_from len gap (y.last + gap + 2) x.first ys,
+  holds_from len gap (y.last + gap + 2) (y.last + 1) ys,
+)
 
 covers_rest : (len gap l : ℕ) (x y : Part) (xs ys : List Part) → Spread len gap l (x ∷ xs) → x.last ≡ y.last
     → ((p : ℕ) → In p (x ∷ xs) → In p (y ∷ ys)) → (p : ℕ) → In p xs → In p ys
@@ -253,14 +245,12 @@ one_spread len gap l m (x ∷ xs) (y ∷ ys) h k there back =
     let first : x.first ≡ y.first = omega arith in
     let last : x.last ≡ y.last = omega (arith, a.1 first, b.1 (sym first)) in
     let rest = one_spread len gap (x.last + gap + 2) (y.last + gap + 2) xs ys h.2 k.2
-    (covers_rest len gap l x y xs ys h last there)
-    (covers_rest len gap m y x ys xs k (sym last) back) in
+    (covers_rest len gap l x y xs ys h last there) (covers_rest len gap m y x ys xs k (sym last) back) in
     grind (arith, first, last, rest)
 
 pub coalesced_once : (len gap : ℕ) (xs ys : List Part) → AreCoalesced len gap xs → AreCoalesced len gap ys
     → ((p : ℕ) → Any (Holds p) xs ↔ Any (Holds p) ys) → xs ≡ ys
-coalesced_once len gap xs ys h k same =
-    one_spread len gap 0 0 xs ys (spread len gap xs h) (spread len gap ys k)
+coalesced_once len gap xs ys h k same = one_spread len gap 0 0 xs ys (spread len gap xs h) (spread len gap ys k)
     (λ p i. among (Holds p) ys ((same p).0 (any_among (Holds p) xs i)))
     (λ p i. among (Holds p) xs ((same p).1 (any_among (Holds p) ys i)))
 
@@ -276,8 +266,7 @@ coalesced_from len gap old new moved up all = by new up (All-permutation (IsPart
   where
     by : (parts : List Part) → Rises 0 parts → All (IsPartOf len) parts → AreCoalesced len gap (merged gap parts)
     by [] up all = coalesced_by len gap 0 [] tt
-    by (part ∷ rest) up all =
-        coalesced_by len gap 0 (merged_from gap part rest)
+    by (part ∷ rest) up all = coalesced_by len gap 0 (merged_from gap part rest)
         (merged_spread len gap 0 part rest (omega arith) (All-head (IsPartOf len) part rest all) up.1
         (All-tail (IsPartOf len) part rest all))
 
@@ -289,8 +278,7 @@ pub joined_weaker : (gap : ℕ) (P Q : ℕ → Type 0) (p : ℕ) → ((q : ℕ) 
 joined_weaker gap P Q p is j = grind (arith)
 
 pub IsJoined-same : (gap : ℕ) (P Q : ℕ → Type 0) (p : ℕ) → ((q : ℕ) → P q ↔ Q q) → IsJoined gap P p ↔ IsJoined gap Q p
-IsJoined-same gap P Q p same =
-    (joined_weaker gap P Q p (λ q. (same q).0), joined_weaker gap Q P p (λ q. (same q).1))
+IsJoined-same gap P Q p same = (joined_weaker gap P Q p (λ q. (same q).0), joined_weaker gap Q P p (λ q. (same q).1))
 
 -- the positions of parts in order and of small gaps between them are those of the joined parts
 merged_is : (len gap p : ℕ) (parts : List Part) → Rises 0 parts → All (IsPartOf len) parts
@@ -324,17 +312,16 @@ covers_from len gap p old new moved up all =
 inserted : (low : ℕ) (x : Part) (ys : List Part) → low ≤ x.first → Rises low ys
     → (zs : List Part) × IsPermutation (x ∷ ys) zs × Rises low zs
 inserted low x [] l up = (x ∷ [], IsPermutation-refl (x ∷ []), (l, tt))
-inserted low x (y ∷ ys) l up =
-    elim (cases_lt y.first x.first) [
-      | inr le ↦ (x ∷ y ∷ ys, IsPermutation-refl (x ∷ y ∷ ys), (l, (omega (arith, le), up.1)))
-      | inl less ↦
-          let rest = inserted y.first x ys (omega (arith, less)) up.1 in (
-            y ∷ rest.0,
-            IsPermutation-trans (x ∷ y ∷ ys) (y ∷ x ∷ ys) (y ∷ rest.0) (IsPermutation-insert (y ∷ ys) 1 x)
-                (IsPermutation-cons y (x ∷ ys) rest.0 rest.1),
-            (up.0, rest.2),
-          )
-    ]
+inserted low x (y ∷ ys) l up = elim (cases_lt y.first x.first) [
+  | inr le ↦ (x ∷ y ∷ ys, IsPermutation-refl (x ∷ y ∷ ys), (l, (omega (arith, le), up.1)))
+  | inl less ↦
+      let rest = inserted y.first x ys (omega (arith, less)) up.1 in (
+        y ∷ rest.0,
+        IsPermutation-trans (x ∷ y ∷ ys) (y ∷ x ∷ ys) (y ∷ rest.0) (IsPermutation-insert (y ∷ ys) 1 x)
+            (IsPermutation-cons y (x ∷ ys) rest.0 rest.1),
+        (up.0, rest.2),
+      )
+]
 
 pub ordered : (xs : List Part) → (ys : List Part) × IsPermutation xs ys × Rises 0 ys
 ordered [] = ([], IsPermutation-refl [], tt)

@@ -46,23 +46,21 @@ earlier_or_lets : (both : Option (ℕ × ℕ)) → IsSomeAnd both (λ d. unix_ep
 earlier_or_lets both = grind (arith, cases_lt)
 
 pub same_or_not : (a b : List ℕ) → (a ≡ b) ⊎ ¬ (a ≡ b)
-same_or_not a b =
-    elim (cases_Bool (bytes_eq a b)) [
-      | inl y ↦ inl ((bytes_eq-Decides a b).0 y)
-      | inr n ↦ inr (λ e. both_ways (bytes_eq a b) n ((bytes_eq-Decides a b).1 e))
-    ]
+same_or_not a b = elim (cases_Bool (bytes_eq a b)) [
+  | inl y ↦ inl ((bytes_eq-Decides a b).0 y)
+  | inr n ↦ inr (λ e. both_ways (bytes_eq a b) n ((bytes_eq-Decides a b).1 e))
+]
 
 pub read_or_not : (method : List ℕ) → IsGetOrHead method ⊎ ¬ (IsGetOrHead method)
 read_or_not method = grind (arith, same_or_not method (codes "GET"), same_or_not method (codes "HEAD"))
 
 unconditional_or_not : (method : List ℕ) → IsUnconditional method ⊎ ¬ (IsUnconditional method)
-unconditional_or_not method =
-    grind (
-      arith,
-      same_or_not method (codes "CONNECT"),
-      same_or_not method (codes "OPTIONS"),
-      same_or_not method (codes "TRACE"),
-    )
+unconditional_or_not method = grind (
+  arith,
+  same_or_not method (codes "CONNECT"),
+  same_or_not method (codes "OPTIONS"),
+  same_or_not method (codes "TRACE"),
+)
 
 missing_or_not : (resource : TargetState) (method : List ℕ)
     → ReadsMissing resource method ⊎ ¬ (ReadsMissing resource method)
@@ -79,53 +77,49 @@ module _ (present : ℕ) (request : LineMap) (resource : TargetState) where
 
   stored_or_read : (IsStoredByTag request resource ⊎ IsStoredByDate present request resource)
       ⊎ IsRead present request resource
-  stored_or_read =
-      elim (has_or_not (request (codes "if-none-match"))) [
-        | inl has ↦
-            elim (true_or_not (names Weak (request (codes "if-none-match")) resource)) [
-              | inl y ↦ inl (inl (has, y))
-              | inr n ↦ inr (record { by_tag = λ h. n; by_date = λ lacks. absurd (lacks has) })
-            ]
-        | inr lacks ↦
-            elim (earlier_or_lets (dates present (codes "if-modified-since") request resource)) [
-              | inl stored ↦ inl (inr (lacks, stored))
-              | inr lets ↦ inr (record { by_tag = λ has. absurd (lacks has); by_date = λ h. lets })
-            ]
-      ]
+  stored_or_read = elim (has_or_not (request (codes "if-none-match"))) [
+    | inl has ↦
+        elim (true_or_not (names Weak (request (codes "if-none-match")) resource)) [
+          | inl y ↦ inl (inl (has, y))
+          | inr n ↦ inr (record { by_tag = λ h. n; by_date = λ lacks. absurd (lacks has) })
+        ]
+    | inr lacks ↦
+        elim (earlier_or_lets (dates present (codes "if-modified-since") request resource)) [
+          | inl stored ↦ inl (inr (lacks, stored))
+          | inr lets ↦ inr (record { by_tag = λ has. absurd (lacks has); by_date = λ h. lets })
+        ]
+  ]
 
   there_or_not : MayBeThere request resource ⊎ ¬ (MayBeThere request resource)
   there_or_not = grind (arith, has_or_not, true_or_not, lacks)
 
-  some_step_answer : (method : List ℕ)
-      → (answer : Precondition) × StepsAnswer present request resource method answer
-  some_step_answer method =
-      elim kept_or_lost [
-        | inr lost ↦ (Failed, inl lost)
-        | inl kept ↦
-            elim (read_or_not method) [
-              | inl read ↦
-                  elim stored_or_read [
-                    | inl stored ↦ (NotModified, (kept, read, stored))
-                    | inr lets ↦ (Perform, (kept, (λ h. lets), (λ other. absurd (other read))))
-                  ]
-              | inr other ↦
-                  elim there_or_not [
-                    | inl there ↦ (Failed, inr (kept, other, there))
-                    | inr free ↦ (Perform, (kept, (λ read. absurd (other read)), (λ h. free)))
-                  ]
-            ]
-      ]
+  some_step_answer : (method : List ℕ) → (answer : Precondition) × StepsAnswer present request resource method answer
+  some_step_answer method = elim kept_or_lost [
+    | inr lost ↦ (Failed, inl lost)
+    | inl kept ↦
+        elim (read_or_not method) [
+          | inl read ↦
+              elim stored_or_read [
+                | inl stored ↦ (NotModified, (kept, read, stored))
+                | inr lets ↦ (Perform, (kept, (λ h. lets), (λ other. absurd (other read))))
+              ]
+          | inr other ↦
+              elim there_or_not [
+                | inl there ↦ (Failed, inr (kept, other, there))
+                | inr free ↦ (Perform, (kept, (λ read. absurd (other read)), (λ h. free)))
+              ]
+        ]
+  ]
 
   pub some_answer : (method : List ℕ) → (answer : Precondition) × Answers present request resource method answer
-  some_answer method =
-      elim (ignored_or_not resource method) [
-        | inl is ↦ (Perform, record { unconditional = λ i. refl; conditional = λ counts. absurd (counts is) })
-        | inr counts ↦
-            let step = some_step_answer method in (
-              step.0,
-              record { unconditional = λ i. absurd (counts i); conditional = λ c. step.1 },
-            )
-      ]
+  some_answer method = elim (ignored_or_not resource method) [
+    | inl is ↦ (Perform, record { unconditional = λ i. refl; conditional = λ counts. absurd (counts is) })
+    | inr counts ↦
+        let step = some_step_answer method in (
+          step.0,
+          record { unconditional = λ i. absurd (counts i); conditional = λ c. step.1 },
+        )
+  ]
 
 -- ---- at most one
 
@@ -136,11 +130,10 @@ module _ (present : ℕ) (request : LineMap) (resource : TargetState) (method : 
 
   pub one_answer : (a b : Precondition) → Answers present request resource method a
       → Answers present request resource method b → a ≡ b
-  one_answer a b h k =
-      elim (ignored_or_not resource method) [
-        | inl i ↦ cc (h.unconditional i, k.unconditional i)
-        | inr counts ↦ one_step_answer a b (h.conditional counts) (k.conditional counts)
-      ]
+  one_answer a b h k = elim (ignored_or_not resource method) [
+    | inl i ↦ cc (h.unconditional i, k.unconditional i)
+    | inr counts ↦ one_step_answer a b (h.conditional counts) (k.conditional counts)
+  ]
 
   modified_lets : request (codes "if-modified-since") ≡ [] → ModifiedSinceLets present request resource
   modified_lets c = rw c tt
@@ -156,8 +149,7 @@ module _ (present : ℕ) (request : LineMap) (resource : TargetState) (method : 
   pub unconditional : request (codes "if-match") ≡ [] → request (codes "if-none-match") ≡ []
       → request (codes "if-modified-since") ≡ [] → request (codes "if-unmodified-since") ≡ []
       → Answers present request resource method Perform
-  unconditional a b c d =
-      record { unconditional = λ i. refl; conditional = λ counts. performed a b c d }
+  unconditional a b c d = record { unconditional = λ i. refl; conditional = λ counts. performed a b c d }
 
 pub missing_performed : (present : ℕ) (request : LineMap) (method : List ℕ) → IsGetOrHead method
     → Answers present request TargetState.Missing method Perform

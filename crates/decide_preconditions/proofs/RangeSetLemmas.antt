@@ -22,25 +22,23 @@ piece_next s x y e =
 
 -- the last piece
 pub piece_last : (s : List ℕ) → None ≡ cut 44 s → pieces s ≡ s ∷ []
-piece_last s e =
-    grind (
-      arith,
-      cases_Bool,
-      nat_lt,
-      position_or_len,
-      before_first,
-      after_first,
-      ltb-false,
-      slice_split_none,
-      fails_before_first,
-    )
+piece_last s e = grind (
+  arith,
+  cases_Bool,
+  nat_lt,
+  position_or_len,
+  before_first,
+  after_first,
+  ltb-false,
+  slice_split_none,
+  fails_before_first,
+)
 
 -- ---- parts
 
 -- what a spec selects: nothing if it covers no position, else the part of just the positions that it covers
 abbrev SelectsCovered : ℕ → RangeSpec → Option Part → Type 0
-SelectsCovered len spec found =
-    MatchOption found ((p : ℕ) → ¬ (Covers len p spec))
+SelectsCovered len spec found = MatchOption found ((p : ℕ) → ¬ (Covers len p spec))
     (λ part. IsPartOf len part × ((p : ℕ) → Holds p part ↔ Covers len p spec))
 
 selects_to : (len first last : ℕ) → SelectsCovered len (Between first last) (part_of len (Between first last))
@@ -56,9 +54,8 @@ selects_covered : (len : ℕ) (spec : RangeSpec) → SelectsCovered len spec (pa
 selects_covered len spec = grind (arith, selects_to, selects_from, selects_last)
 
 -- an element before others, by the spec that it is
-part_first : (len p : ℕ) (spec : Option RangeSpec) (others : List RangeSpec) (parts : List Part)
-    → Among (Holds p) parts ↔ Among (Covers len p) others
-    → Among (Holds p) (cons_option (option_and_then (part_of len) spec) parts)
+part_first : (len p : ℕ) (spec : Option RangeSpec) (others : List RangeSpec) (parts : List Part) → Among (Holds p) parts
+    ↔ Among (Covers len p) others → Among (Holds p) (cons_option (option_and_then (part_of len) spec) parts)
     ↔ Among (Covers len p) (cons_option spec others)
 part_first len p None others parts same = same
 part_first len p (Some spec) others parts same = by (part_of len spec) (selects_covered len spec)
@@ -120,8 +117,7 @@ asked_or_not len es true e = by (filter_map (part_in len) es) refl (some_part le
         let within : All (IsPartOf len) (part ∷ parts) = rw f at (parts_within len es) in
         let low = within 0 part l in (
           part.first,
-          (parts_cover len part.first es).0
-              (rw f (any_here (Holds part.first) part parts (omega arith, low.0))),
+          (parts_cover len part.first es).0 (rw f (any_here (Holds part.first) part parts (omega arith, low.0))),
         )
 asked_or_not len es false e = λ p a.
     let none = some_part len es false e in

@@ -78,26 +78,23 @@ module _ (present : ℕ) (method : List ℕ) (request : LineMap) (current : Vali
       h.coalesced k.coalesced h.covers k.covers)
 
   pub none_covered : Selects present method request current len limits Selection.Unsatisfiable → SomeParts []
-  none_covered h =
-      record {
-        set = h.0;
-        applies = h.1;
-        coalesced =
-            record { within = λ k d l. absurd (omega (arith, l)); apart = λ i j d l m. absurd (omega (arith, m)) };
-        covers = λ p. ((λ a. let l = a.2 in absurd (omega (arith, l))), (λ j. absurd (h.2 j.before j.is_before)));
-        few = refl;
-      }
+  none_covered h = record {
+    set = h.0;
+    applies = h.1;
+    coalesced = record { within = λ k d l. absurd (omega (arith, l)); apart = λ i j d l m. absurd (omega (arith, m)) };
+    covers = λ p. ((λ a. let l = a.2 in absurd (omega (arith, l))), (λ j. absurd (h.2 j.before j.is_before)));
+    few = refl;
+  }
 
   pub some_covered : (set : List ℕ) (parts : List Part) → Asks set parts → are_too_many limits len parts ≡ false
       → SomeParts parts
-  some_covered set parts h few =
-      record {
-        set = set;
-        applies = h.applies;
-        coalesced = h.asked.coalesced;
-        covers = h.asked.covers;
-        few = few;
-      }
+  some_covered set parts h few = record {
+    set = set;
+    applies = h.applies;
+    coalesced = h.asked.coalesced;
+    covers = h.asked.covers;
+    few = few;
+  }
 
   -- the parts of a selection, if it isn't all
   abbrev parts_of : Selection → Option (List Part)
@@ -161,23 +158,21 @@ module _ (present : ℕ) (method : List ℕ) (request : LineMap) (current : Vali
       → ((set : List ℕ) × Applies present method request current len set)
       ⊎ IsIgnored present method request current len limits
   applies_or_not None e = inr (λ set h. cc (h.asked, e))
-  applies_or_not (Some set) e =
-      elim (same_or_not method (codes "GET")) [
-        | inr other ↦ inr (λ s h. other h.is_get)
-        | inl get ↦
-            elim (cases_Bool (if_range_lets present request current)) [
-              | inr fails ↦ inr (λ s h. cc (fails, h.if_range))
-              | inl lets ↦
-                  elim (cases_lt 0 len) [
-                    | inl some ↦ inl (set, record { is_get = get; asked = e; if_range = lets; content = some })
-                    | inr none ↦ inr (λ s h. omega (arith, none, h.content))
-                  ]
-            ]
-      ]
+  applies_or_not (Some set) e = elim (same_or_not method (codes "GET")) [
+    | inr other ↦ inr (λ s h. other h.is_get)
+    | inl get ↦
+        elim (cases_Bool (if_range_lets present request current)) [
+          | inr fails ↦ inr (λ s h. cc (fails, h.if_range))
+          | inl lets ↦
+              elim (cases_lt 0 len) [
+                | inl some ↦ inl (set, record { is_get = get; asked = e; if_range = lets; content = some })
+                | inr none ↦ inr (λ s h. omega (arith, none, h.content))
+              ]
+        ]
+  ]
 
   pub some_selection : HasSelection present method request current len limits
-  some_selection =
-      elim (applies_or_not (set_asked request) refl) [
-        | inl applies ↦ some_of_set applies.0 applies.1
-        | inr ignored ↦ inl (inl ignored)
-      ]
+  some_selection = elim (applies_or_not (set_asked request) refl) [
+    | inl applies ↦ some_of_set applies.0 applies.1
+    | inr ignored ↦ inl (inl ignored)
+  ]

@@ -22,16 +22,14 @@ or_false false = refl
 
 -- what a rule's method adds to Allow, by its name
 abbrev listed : List ℕ → List (List ℕ)
-listed x =
-    if bytes_eq x (codes "GET") then codes "GET" ∷ codes "HEAD" ∷ []
-    else (if bytes_eq x (codes "HEAD") || bytes_eq x (codes "OPTIONS") then [] else x ∷ [])
+listed x = if bytes_eq x (codes "GET") then codes "GET" ∷ codes "HEAD" ∷ [] else
+    (if bytes_eq x (codes "HEAD") || bytes_eq x (codes "OPTIONS") then [] else x ∷ [])
 
 -- a rule lists the methods that it is the rule for
 rule_lists : (x m : List ℕ) → bytes_eq m (codes "OPTIONS") ≡ false
     → list_any (bytes_eq m) (listed x) ≡ bytes_eq x (ruled m)
-rule_lists x m other =
-    by (bytes_eq x (codes "GET")) refl (bytes_eq x (codes "HEAD")) refl (bytes_eq x (codes "OPTIONS")) refl
-    (bytes_eq m (codes "HEAD")) refl
+rule_lists x m other = by (bytes_eq x (codes "GET")) refl (bytes_eq x (codes "HEAD")) refl
+    (bytes_eq x (codes "OPTIONS")) refl (bytes_eq m (codes "HEAD")) refl
   where
     by : (b1 : Bool) → bytes_eq x (codes "GET") ≡ b1 → (b2 : Bool) → bytes_eq x (codes "HEAD") ≡ b2 → (b3 : Bool)
         → bytes_eq x (codes "OPTIONS") ≡ b3 → (h : Bool) → bytes_eq m (codes "HEAD") ≡ h → list_any (bytes_eq m)
@@ -48,8 +46,7 @@ rule_lists x m other =
     by false e1 false e2 true e3 true e4 = sym e1
     by false e1 false e2 true e3 false e4 =
         sym (ap (λ (y : List ℕ). bytes_eq y m) (is_equal x (codes "OPTIONS") e3) ∙ flip (codes "OPTIONS") m ∙ other)
-    by false e1 false e2 false e3 true e4 =
-        ap (λ (b : Bool). b || false)
+    by false e1 false e2 false e3 true e4 = ap (λ (b : Bool). b || false)
         (ap (λ (y : List ℕ). bytes_eq y x) (is_equal m (codes "HEAD") e4) ∙ flip (codes "HEAD") x ∙ e2) ∙ sym e1
     by false e1 false e2 false e3 false e4 = or_false (bytes_eq m x) ∙ flip m x
 

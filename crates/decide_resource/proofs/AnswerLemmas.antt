@@ -42,12 +42,10 @@ module _ (present : ℕ) (method : List ℕ) (fields : LineMap) (target : Target
   pub alike : (r s : Option Response) → IsAnswered present method fields target content multipart r
       → IsAnswered present method fields target content multipart s → AreAlike fields representation r s
   alike None None h k = record { status = refl; sends = λ place. tt; has_fields = refl }
-  alike None (Some s) h k =
-      absurd (one_plan present method fields target (divisible_len content) (limits_of content) None (Some s.plan) h
-      k.plan)
-  alike (Some r) None h k =
-      absurd (one_plan present method fields target (divisible_len content) (limits_of content) (Some r.plan) None
-      h.plan k)
+  alike None (Some s) h k = absurd
+      (one_plan present method fields target (divisible_len content) (limits_of content) None (Some s.plan) h k.plan)
+  alike (Some r) None h k = absurd
+      (one_plan present method fields target (divisible_len content) (limits_of content) (Some r.plan) None h.plan k)
   alike (Some r) (Some s) h k =
       let len = divisible_len content in
       let limits = limits_of content in
@@ -56,8 +54,7 @@ module _ (present : ℕ) (method : List ℕ) (fields : LineMap) (target : Target
       record {
         status = ap (λ (code : ℕ). Some code) (h.status ∙ same.0 ∙ sym k.status);
         sends = λ place. (refl, same);
-        has_fields =
-            ap (with_metadata fields representation r.plan) h.fields
+        has_fields = ap (with_metadata fields representation r.plan) h.fields
             ∙ same_by_plan present method fields target len limits (λ plan. with_metadata fields representation plan
             (fields_sent present plan (is_known_by fields) target content multipart))
             (several_alike representation) r.plan s.plan h.plan k.plan same
@@ -77,9 +74,8 @@ module _ (present : ℕ) (resource : Resource) (request : Request) (st su : Opti
       → GiveSame st su se sf fs gs
   stops_same reason h k = grind (arith, reason, sent_self)
 
-  goes_on_same : (place : Option ℕ) (rep : Option Representation)
-      → GoesOn present resource request place rep st se fs → GoesOn present resource request place rep su sf gs
-      → GiveSame st su se sf fs gs
+  goes_on_same : (place : Option ℕ) (rep : Option Representation) → GoesOn present resource request place rep st se fs
+      → GoesOn present resource request place rep su sf gs → GiveSame st su se sf fs gs
   goes_on_same place rep h k = grind (arith, alike, resource)
 
   goes_same : Goes present resource request st se fs → Goes present resource request su sf gs
@@ -117,8 +113,7 @@ one_answer present resource request a b h k =
       reason = sym reason;
       status = given.status;
       sends = given.sends;
-      fields =
-          h.fields
+      fields = h.fields
           ∙ ap (λ (own : List Field). (own ++ vary_fields (vary_lines resource a.reason)) ++ h.shared) given.fields
           ∙ ap (λ (shared : List Field). (k.own ++ vary_fields (vary_lines resource a.reason)) ++ shared) shared
           ∙ ap (λ (r : Reason). (k.own ++ vary_fields (vary_lines resource r)) ++ k.shared) (sym reason)

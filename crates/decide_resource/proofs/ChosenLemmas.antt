@@ -40,32 +40,29 @@ module _ (scored : Representation → ℕ) (xs : List Representation) where
 
   greatest : (place : ℕ) (x : Representation) → IsFirstOfGreatest scored xs place
       → is_preferred scored xs (get_or xs place x) ≡ true
-  greatest place x h =
-      grind (
-        arith,
-        h.positive x,
-        all_within scored (scored (get_or xs place x)) xs (λ k other low.
-            omega (arith, h.greatest k other low, ap scored (same_at xs place other x h.within))),
-      )
+  greatest place x h = grind (
+    arith,
+    h.positive x,
+    all_within scored (scored (get_or xs place x)) xs (λ k other low.
+        omega (arith, h.greatest k other low, ap scored (same_at xs place other x h.within))),
+  )
 
   found_at : (place : ℕ) (x : Representation) → IsFirstOfGreatest scored xs place → slice_get xs place ≡ Some x
       → find (is_preferred scored xs) xs ≡ Some x
-  found_at place x h is =
-      find_at (is_preferred scored xs) xs
+  found_at place x h is = find_at (is_preferred scored xs) xs
       ∙ ap (slice_get xs) (position_or_len_is (is_preferred scored xs) xs place x (omega (arith, h.within))
       (λ k low. lesser (get_or xs k x) x place h.within (h.first k x low)) (λ low. greatest place x h)) ∙ is
 
   picked_at : (choice : Option ℕ) → Picks scored xs choice
       → at_place xs (place_of xs choice) ≡ first_preferred scored xs
   picked_at None h = grind (arith, first_or, none_found, unscored)
-  picked_at (Some place) h =
-      elim (slice_get_cases xs place).1 [
-        | inl there ↦
-            let is = there.2 in
-            is ∙ ap (λ (found : Option Representation). option_or found (slice_get xs 0))
-            (sym (found_at place there.0 h is))
-        | inr past ↦ let low = past.0 in absurd (omega (arith, low, h.within))
-      ]
+  picked_at (Some place) h = elim (slice_get_cases xs place).1 [
+    | inl there ↦
+        let is = there.2 in
+        is ∙ ap (λ (found : Option Representation). option_or found (slice_get xs 0))
+        (sym (found_at place there.0 h is))
+    | inr past ↦ let low = past.0 in absurd (omega (arith, low, h.within))
+  ]
 
   picked_in : (there : State) (choice : Option ℕ) → Picks scored xs choice
       → at_place xs (place_in there xs choice) ≡ (if is_current there then first_preferred scored xs else None)
@@ -102,5 +99,4 @@ module _ (resource : Resource) where
     same_date = grind (arith, some_place, date_at, same_selected)
 
     pub same_guard : (present : ℕ) → AskAlike f g → is_guarded present resource f ≡ is_guarded present resource g
-    same_guard present asks =
-        rw (asks.if_match, asks.if_none_match, asks.if_unmodified_since, same_date) refl
+    same_guard present asks = rw (asks.if_match, asks.if_none_match, asks.if_unmodified_since, same_date) refl

@@ -19,17 +19,16 @@ module _ (request : Request) (why : Denial) (denies : request.denied ≡ Some wh
   -- Host, a policy or the denial decides
   early : (present : ℕ) (resource : Resource) (reason : Reason) → IsFirst (applies present resource request) reason
       → Before reason UnknownMethod
-  early present resource reason first =
-      elim (cases_order (stage reason) 3) [
-        | inl level ↦ omega (arith, level)
-        | inr apart ↦
-            elim apart [
-              | inl low ↦ omega (arith, low)
-              | inr high ↦
-                  let none : applies present resource request Denied ≡ false = first.none_before Denied high in
-                  absurd (cc (none, is_denied present resource))
-            ]
-      ]
+  early present resource reason first = elim (cases_order (stage reason) 3) [
+    | inl level ↦ omega (arith, level)
+    | inr apart ↦
+        elim apart [
+          | inl low ↦ omega (arith, low)
+          | inr high ↦
+              let none : applies present resource request Denied ≡ false = first.none_before Denied high in
+              absurd (cc (none, is_denied present resource))
+        ]
+  ]
 
   only_denied : (reason : Reason) → stage reason ≡ 3 → reason ≡ Denied
   only_denied Denied e = refl
@@ -61,8 +60,7 @@ module _ (request : Request) (why : Denial) (denies : request.denied ≡ Some wh
     no_vary : (resource : Resource) (reason : Reason) → Before reason UnknownMethod → vary_lines resource reason ≡ []
     no_vary resource reason low = grind (arith, reason)
 
-    pub tells_nothing : (x y : Answer) → IsAnswer present a request x → IsAnswer later b request y
-        → AreSame x y
+    pub tells_nothing : (x y : Answer) → IsAnswer present a request x → IsAnswer later b request y → AreSame x y
     tells_nothing x y h k =
         let low : Before x.reason UnknownMethod = early present a x.reason h.first in
         let reason : y.reason ≡ x.reason =
@@ -75,8 +73,7 @@ module _ (request : Request) (why : Denial) (denies : request.denied ≡ Some wh
         same_stops x.reason y.status y.sends k.own low (stops later b x.reason y.status y.sends k.own low other) in
         let given = gives_same present a request x.status y.status x.sends y.sends h.own k.own false x.reason mine
         theirs in
-        let under : Before y.reason UnknownMethod =
-        subst (λ (r : Reason). Before r UnknownMethod) (sym reason) low in
+        let under : Before y.reason UnknownMethod = subst (λ (r : Reason). Before r UnknownMethod) (sym reason) low in
         let my_lines = no_vary a x.reason low in
         let their_lines = no_vary b y.reason under in
         let mine_shared : IsShared a.cors request [] h.shared =
@@ -84,14 +81,12 @@ module _ (request : Request) (why : Denial) (denies : request.denied ≡ Some wh
         let theirs_shared : IsShared a.cors request [] k.shared =
         subst (λ (policy : Option Policy). IsShared policy request [] k.shared) (sym cors)
         (subst (λ (lines : _). IsShared b.cors request lines k.shared) their_lines k.is_shared) in
-        let shared : h.shared ≡ k.shared =
-        shared_same a.cors request [] h.shared k.shared mine_shared theirs_shared in
+        let shared : h.shared ≡ k.shared = shared_same a.cors request [] h.shared k.shared mine_shared theirs_shared in
         record {
           reason = sym reason;
           status = given.status;
           sends = given.sends;
-          fields =
-              h.fields ∙ ap (λ (lines : _). (h.own ++ vary_fields lines) ++ h.shared) my_lines
+          fields = h.fields ∙ ap (λ (lines : _). (h.own ++ vary_fields lines) ++ h.shared) my_lines
               ∙ ap (λ (own : List Field). (own ++ []) ++ h.shared) given.fields
               ∙ ap (λ (fields : List Field). (k.own ++ []) ++ fields) shared
               ∙ ap (λ (lines : _). (k.own ++ vary_fields lines) ++ k.shared) (sym their_lines)

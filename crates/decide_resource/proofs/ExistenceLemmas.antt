@@ -100,12 +100,8 @@ module _ (present : ℕ) (request : Request) (there : State) (representation : O
 
   plan_fits : (plan : Plan) (known : Bool) (multipart : FieldValue)
       → Fit 9 (fields_sent present plan known target content multipart)
-  plan_fits plan known multipart =
-      fit-more _ (value_fits _ _)
-      (fit-more _ (value_fits _ _)
-      (fit-more _ (value_fits _ _)
-      (fit-more _ (value_fits _ _)
-      (fit-more _ (value_fits _ _)
+  plan_fits plan known multipart = fit-more _ (value_fits _ _) (fit-more _ (value_fits _ _) (fit-more _ (value_fits _ _)
+      (fit-more _ (value_fits _ _) (fit-more _ (value_fits _ _)
       (fit-more _ (value_fits _ _) (removed_fits (keeps_encoding plan known) (is_whole plan)))))))
 
   -- ---- its plan
@@ -114,8 +110,7 @@ module _ (present : ℕ) (request : Request) (there : State) (representation : O
   few_parts limit n costly few more = grind (arith, ltb-false)
 
   abbrev Responds : FieldValue → Type 0
-  Responds multipart =
-      (response : Option Response)
+  Responds multipart = (response : Option Response)
       × IsAnswered present request.method request.fields target content multipart response
 
   module _ (few : (limits_of content).parts < 2 ^ 63) where
@@ -129,7 +124,7 @@ module _ (present : ℕ) (request : Request) (there : State) (representation : O
     parted current reads (part ∷ []) sends = (plans.Single part, (current, reads, sends))
     parted current reads (part ∷ other ∷ parts) sends =
         let few_here =
-            few_parts (limits_of content).parts (length (part ∷ other ∷ parts)) _ sends.few (omega arith) in (
+        few_parts (limits_of content).parts (length (part ∷ other ∷ parts)) _ sends.few (omega arith) in (
           plans.Multiple (vec (part ∷ other ∷ parts) (omega (arith, few_here, few))),
           (current, reads, sends, omega arith),
         )
@@ -175,8 +170,7 @@ line_few : (b : Bool) (line : Line) → length (line_if b line) ≤ 1
 line_few true line = omega arith
 line_few false line = omega arith
 
-vary_few : (resource : Resource) (selects : Bool)
-    → length (if selects then selecting resource.negotiation else []) ≤ 3
+vary_few : (resource : Resource) (selects : Bool) → length (if selects then selecting resource.negotiation else []) ≤ 3
 vary_few resource selects = grind (arith, selects, line_few, length-append)
 
 vary_fits : (lines : List Line) → length lines ≤ 3 → Fit 1 (vary_fields lines)
@@ -203,13 +197,11 @@ module _ (present : ℕ) (resource : Resource) (request : Request) (fits : FitsM
   reason_fits : (reason : Reason) → Fit 3 (reason_fields resource request reason)
   reason_fits Reason.Denied = denied_fits request.denied
   reason_fits Reason.MethodNotAllowed = fit-more _ (omega arith) (fit-none 2)
-  reason_fits Reason.Options =
-      fit-more _ (omega arith)
+  reason_fits Reason.Options = fit-more _ (omega arith)
       (fit-append (types_fit (codes "accept-patch") _ (rule_fits (codes "PATCH")))
       (types_fit (codes "accept-post") _ (rule_fits (codes "POST"))))
   reason_fits Reason.Moved = location_fits resource.state
-  reason_fits Reason.UnsupportedMediaType =
-      fit-weaker (omega arith)
+  reason_fits Reason.UnsupportedMediaType = fit-weaker (omega arith)
       (fit-append (types_fit (codes "accept") _ (rule_fits request.method))
       (of_patch (bytes_eq request.method (codes "PATCH"))))
     where
@@ -246,27 +238,23 @@ module _ (present : ℕ) (resource : Resource) (request : Request) (fits : FitsM
       by true admitted =
           let place = some_place resource request.fields in
           let found = at_place resource.representations.items place.0 in
-          let response =
-          responds present request resource.state found (parts_few place.0) resource.boundary in
+          let response = responds present request resource.state found (parts_few place.0) resource.boundary in
           record {
             status = status_sent response.0;
             sends = is_sent place.0 response.0;
             own = response_fields request.fields found response.0;
-            gives =
-                subst (λ (b : Bool). GivesIf b present resource request reason (status_sent response.0)
-                (is_sent place.0 response.0) (response_fields request.fields found response.0)) (sym admitted)
-                (
+            gives = subst (λ (b : Bool). GivesIf b present resource request reason (status_sent response.0)
+                (is_sent place.0 response.0) (response_fields request.fields found response.0)) (sym admitted) (
                 record {
                   place = place.0;
                   selected = place.1;
-                  goes =
-                      record {
-                        response = response.0;
-                        answered = response.1;
-                        has_status = refl;
-                        sends = refl;
-                        has_fields = refl;
-                      };
+                  goes = record {
+                    response = response.0;
+                    answered = response.1;
+                    has_status = refl;
+                    sends = refl;
+                    has_fields = refl;
+                  };
                 }
                 );
             few = response_fits present request resource.state found resource.boundary response.0 response.1;
@@ -278,9 +266,8 @@ module _ (present : ℕ) (resource : Resource) (request : Request) (fits : FitsM
             status = status;
             sends = sent_for reason;
             own = own;
-            gives =
-                subst (λ (b : Bool). GivesIf b present resource request reason status (sent_for reason) own) (sym stops)
-                (record { has_status = refl; sends = refl; has_fields = refl });
+            gives = subst (λ (b : Bool). GivesIf b present resource request reason status (sent_for reason) own)
+                (sym stops) (record { has_status = refl; sends = refl; has_fields = refl });
             few = fit-weaker (omega arith) (reason_fits reason);
           }
 

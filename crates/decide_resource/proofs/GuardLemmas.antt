@@ -129,9 +129,8 @@ module _ (present : ℕ) (resource : Resource) (request : Request) where
       (is_guarded present resource request.fields) read needs (first.none_before PreconditionRequired last)
 
   pub replaces_named : (answer : Answer) → needs_condition (rule resource request) ≡ true
-      → is_read request.method ≡ false → ¬ (IsUnconditional request.method)
-      → IsAnswer present resource request answer → answer.sends ≡ sends.Perform
-      → ReplacesNamed present resource request
+      → is_read request.method ≡ false → ¬ (IsUnconditional request.method) → IsAnswer present resource request answer
+      → answer.sends ≡ sends.Perform → ReplacesNamed present resource request
   replaces_named answer needs read counts is performs =
       let on = passes_if (is_admitted answer.reason) answer.reason refl answer.status answer.sends is.own is.gives
       performs in (

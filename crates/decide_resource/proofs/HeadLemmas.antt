@@ -17,8 +17,7 @@ use Rattle.decide_resource.specs.declared.resource.State.TheVariants as states
 
 module _ (present : ℕ) (resource : Resource) (request : Request) where
   abbrev missing_by : State → List ℕ → Bool
-  missing_by state method =
-      is_missing state resource.rules.items (rule_for resource.rules.items method) method
+  missing_by state method = is_missing state resource.rules.items (rule_for resource.rules.items method) method
 
   missing_alike : (state : State) → missing_by state (codes "GET") ≡ missing_by state (codes "HEAD")
   unfolding rule_for
@@ -46,8 +45,7 @@ module _ (present : ℕ) (resource : Resource) (request : Request) where
       → IsSelected resource (head_of request).fields place
   selected_alike = same_selected resource (get_of request).fields (head_of request).fields score_alike
 
-  answered_alike : (target : Target) (content : Content) (multipart : FieldValue)
-      (response : Option Response)
+  answered_alike : (target : Target) (content : Content) (multipart : FieldValue) (response : Option Response)
       → IsAnswered present (codes "GET") (get_of request).fields target content multipart response
       → IsAnswered present (codes "HEAD") (head_of request).fields target content multipart response
   answered_alike target content multipart None h = grind (arith, head_as_get, content)
@@ -61,8 +59,7 @@ module _ (present : ℕ) (resource : Resource) (request : Request) where
   gives_alike : (b : Bool) (reason : Reason) (status : Option ℕ) (sent : Sends) (fields : List Field)
       → GivesIf b present resource (get_of request) reason status sent fields
       → GivesIf b present resource (head_of request) reason status sent fields
-  gives_alike true reason status sent fields h =
-      grind (arith, resource, selected_alike, answered_alike, fields_alike)
+  gives_alike true reason status sent fields h = grind (arith, resource, selected_alike, answered_alike, fields_alike)
   gives_alike false reason status sent fields h = grind (arith, reason_alike, reason)
 
   kind_alike : (kind : CorsKind) → IsKindOf (codes "GET") (get_of request).fields kind
@@ -77,5 +74,4 @@ module _ (present : ℕ) (resource : Resource) (request : Request) where
 
   pub answer_of_get : (answer : Answer) → IsAnswer present resource (get_of request) answer
       → IsAnswer present resource (head_of request) answer
-  answer_of_get answer h =
-      grind (arith, first_alike, applies, resource, apply_alike, gives_alike, shared_alike)
+  answer_of_get answer h = grind (arith, first_alike, applies, resource, apply_alike, gives_alike, shared_alike)

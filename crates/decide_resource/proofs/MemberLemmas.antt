@@ -42,15 +42,14 @@ module _ (request : Request) (accept language coding : List Line)
   s = choosing accept language coding request.fields
 
   abbrev chooser : Request
-  chooser =
-      record {
-        protocol = request.protocol;
-        method = request.method;
-        authority = request.authority;
-        content = request.content;
-        fields = s;
-        denied = request.denied;
-      }
+  chooser = record {
+    protocol = request.protocol;
+    method = request.method;
+    authority = request.authority;
+    content = request.content;
+    fields = s;
+    denied = request.denied;
+  }
 
   score_same : (n : Negotiation) (x : Representation) → score n r x ≡ score n s x
   unfolding score
@@ -91,16 +90,14 @@ module _ (request : Request) (accept language coding : List Line)
         record {
           place = h.place;
           selected = same_selected resource r s (score_same resource.negotiation) h.place h.selected;
-          goes =
-              record {
-                response = h.goes.response;
-                answered =
-                    answered present request.method (target_of resource.state rep) (content_of rep)
-                    resource.boundary r s asks h.goes.response h.goes.answered;
-                has_status = h.goes.has_status;
-                sends = h.goes.sends;
-                has_fields = h.goes.has_fields ∙ known rep h.goes.response;
-              };
+          goes = record {
+            response = h.goes.response;
+            answered = answered present request.method (target_of resource.state rep) (content_of rep)
+                resource.boundary r s asks h.goes.response h.goes.answered;
+            has_status = h.goes.has_status;
+            sends = h.goes.sends;
+            has_fields = h.goes.has_fields ∙ known rep h.goes.response;
+          };
         }
     gives false reason status sent fields h =
         record { has_status = h.has_status; sends = h.sends; has_fields = h.has_fields ∙ same_fields reason }
@@ -121,15 +118,14 @@ module _ (request : Request) (accept language coding : List Line)
         )
 
     chosen : (a : Answer) → IsAnswer present resource request a → IsAnswer present resource chooser a
-    chosen a h =
-        record {
-          first = first_alike _ _ same_reason _ h.first;
-          own = h.own;
-          gives = gives (is_admitted a.reason) a.reason a.status a.sends h.own h.gives;
-          shared = h.shared;
-          is_shared = shared _ _ _ h.is_shared;
-          fields = h.fields;
-        }
+    chosen a h = record {
+      first = first_alike _ _ same_reason _ h.first;
+      own = h.own;
+      gives = gives (is_admitted a.reason) a.reason a.status a.sends h.own h.gives;
+      shared = h.shared;
+      is_shared = shared _ _ _ h.is_shared;
+      fields = h.fields;
+    }
 
 -- ---- two requests
 

@@ -25,8 +25,7 @@ pub record AreExclusive (p : Reason → Bool) : Type 0 where
 
 -- the reasons of a stage
 abbrev of_stage : ℕ → List Reason
-of_stage n =
-    if n == 0 then InvalidHost ∷ [] else (if n == 1 then Misdirected ∷ [] else (if n == 2 then Preflight ∷ []
+of_stage n = if n == 0 then InvalidHost ∷ [] else (if n == 1 then Misdirected ∷ [] else (if n == 2 then Preflight ∷ []
     else (if n == 3 then Denied ∷ [] else (if n == 4 then UnknownMethod ∷ [] else (if n == 5 then MethodNotAllowed ∷ []
     else (if n == 6 then UnmetExpectation ∷ [] else (if n == 7 then PartialContent ∷ []
     else (if n == 8 then Moved ∷ Gone ∷ NotFound ∷ [] else (if n == 9 then Options ∷ []
@@ -89,5 +88,4 @@ some_reason present resource request =
 
 pub one_reason : (present : ℕ) (resource : Resource) (request : Request) (a b : Reason)
     → IsFirst (applies present resource request) a → IsFirst (applies present resource request) b → a ≡ b
-one_reason present resource request =
-    one_first (applies present resource request) (exclusive present resource request)
+one_reason present resource request = one_first (applies present resource request) (exclusive present resource request)

@@ -14,24 +14,19 @@ kind_alike : (method : List ℕ) (r s : LineMap) (kind : CorsKind) → r (codes 
     → IsKindOf method r kind → IsKindOf method s kind
 kind_alike method r s kind e f h = grind (arith, kind)
 
-shared_alike : (policy : Option Policy) (r s : Request) (lines : List Line) (fields : List Field)
-    → r.method ≡ s.method → ChooseAlike r.fields s.fields → IsShared policy r lines fields
-    → IsShared policy s lines fields
+shared_alike : (policy : Option Policy) (r s : Request) (lines : List Line) (fields : List Field) → r.method ≡ s.method
+    → ChooseAlike r.fields s.fields → IsShared policy r lines fields → IsShared policy s lines fields
 shared_alike None r s lines fields method same h = h
 shared_alike (Some policy) r s lines fields method same h =
     let answer : CorsAnswer = h.0 in
     let is : IsPolicyAnswer policy r.method r.fields (varying lines) answer = h.1 in (
       answer,
       record {
-        kind =
-            kind_alike s.method r.fields s.fields answer.kind same.origin same.requested_method
+        kind = kind_alike s.method r.fields s.fields answer.kind same.origin same.requested_method
             (subst (λ (m : List ℕ). IsKindOf m r.fields answer.kind) method is.kind);
-        allowed =
-            is.allowed ∙ ap (λ (origin : List Line). allows answer.kind (granted policy origin)) same.origin;
-        fields =
-            is.fields ∙ ap (λ (origin : List Line).
-            fields_sent policy (is_preflight answer.kind) origin (varying lines (codes "vary")))
-            same.origin;
+        allowed = is.allowed ∙ ap (λ (origin : List Line). allows answer.kind (granted policy origin)) same.origin;
+        fields = is.fields ∙ ap (λ (origin : List Line).
+            fields_sent policy (is_preflight answer.kind) origin (varying lines (codes "vary"))) same.origin;
       },
       h.2,
     )

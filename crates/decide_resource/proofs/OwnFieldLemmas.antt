@@ -84,22 +84,21 @@ module _ (present : ℕ) (resource : Resource) (request : Request) (answer : Ans
       → IsLawful rules → IsPolicyOf rules policy → IsPreflightFor sent request.method request.fields
       → Before answer.reason Preflight ⊎ ((answer.status ≡ Some 204)
       × (PreflightPasses 204 (set_all before (fields_of answer.fields.items)) sent ↔ AllowsRequest rules sent))
-  preflight_told policy has rules sent lawful made asks =
-      elim (cases_order (stage answer.reason) 2) [
-        | inl level ↦
-            inr (
-              (stops_by Preflight (only_preflight answer.reason level) refl).has_status,
-              preflight_of_answer present resource request answer policy has a before rules sent 204 lawful made asks
-                  (lit≤ tt, lit≤ tt),
-            )
-        | inr apart ↦
-            elim apart [
-              | inl low ↦ inl low
-              | inr high ↦
-                  let none : applies present resource request Preflight ≡ false = a.first.none_before Preflight high in
-                  absurd (cc (none, asks_leave policy has sent asks))
-            ]
-      ]
+  preflight_told policy has rules sent lawful made asks = elim (cases_order (stage answer.reason) 2) [
+    | inl level ↦
+        inr (
+          (stops_by Preflight (only_preflight answer.reason level) refl).has_status,
+          preflight_of_answer present resource request answer policy has a before rules sent 204 lawful made asks
+              (lit≤ tt, lit≤ tt),
+        )
+    | inr apart ↦
+        elim apart [
+          | inl low ↦ inl low
+          | inr high ↦
+              let none : applies present resource request Preflight ≡ false = a.first.none_before Preflight high in
+              absurd (cc (none, asks_leave policy has sent asks))
+        ]
+  ]
 
 -- ---- methods that are listed
 
@@ -167,9 +166,8 @@ unknown_not_implemented present resource request answer a same = grind (arith, n
 
 -- the field lines of a field among what a plan sends are these of the target
 abbrev Tells : ℕ → List ℕ → (Target → List Line) → Plan → Type 0
-Tells present name lines plan =
-    (fields : LineMap) (representation : Option Representation) (target : Target) (content : Content)
-    (multipart : FieldValue) (before : LineMap) → set_all before
+Tells present name lines plan = (fields : LineMap) (representation : Option Representation) (target : Target)
+    (content : Content) (multipart : FieldValue) (before : LineMap) → set_all before
     (with_metadata fields representation plan (fields_sent present plan (is_known_by fields) target content multipart))
     name ≡ lines target
 
@@ -235,8 +233,7 @@ module _ (present : ℕ) (resource : Resource) (request : Request) (before : Lin
   told : (answer : Answer) → IsAnswer present resource request answer → (place : Option ℕ) (plan : Plan)
       → Tells present (own_name which) lines plan → answer.sends ≡ sends.Planned place plan
       → set_all before (fields_of answer.fields.items) (own_name which) ≡ lines_at_place place
-  told answer a place plan tells e =
-      kept present resource request answer a before which
+  told answer a place plan tells e = kept present resource request answer a before which
       ∙ told_by (is_admitted answer.reason) answer.reason answer.status answer.sends a.own place plan tells a.gives e
 
 module _ (present : ℕ) (resource : Resource) (request : Request) (a b : Answer) (p q : Option ℕ) (before : LineMap)
@@ -249,14 +246,12 @@ module _ (present : ℕ) (resource : Resource) (request : Request) (a b : Answer
   same = same_place present resource request a b p q NotModified Full h k e f
 
   pub same_tag : sent_by a (codes "etag") ≡ sent_by b (codes "etag")
-  same_tag =
-      told present resource request before etag tag_lines a h p NotModified (unmodified_tag present) e
+  same_tag = told present resource request before etag tag_lines a h p NotModified (unmodified_tag present) e
       ∙ ap (lines_at_place present resource request before etag tag_lines) same
       ∙ sym (told present resource (unconditional request) before etag tag_lines b k q Full (full_tag present) f)
 
   pub same_date : sent_by a (codes "etag") ≡ [] → sent_by a (codes "last-modified") ≡ sent_by b (codes "last-modified")
-  same_date none =
-      told present resource request before last_modified (date_without_tag present) a h p NotModified
+  same_date none = told present resource request before last_modified (date_without_tag present) a h p NotModified
       (unmodified_date present) e
       ∙ untagged_date present (target_of resource.state (at_place resource.representations.items p))
       (sym (told present resource request before etag tag_lines a h p NotModified (unmodified_tag present) e) ∙ none)

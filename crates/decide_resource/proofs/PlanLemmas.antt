@@ -10,10 +10,9 @@ one_is_not_more x xs e more = let len = ap length e in omega (arith, len, more)
 
 -- what depends on a plan, but of several parts not on which they are
 pub same_by_plan : {X : Type 0} (present : ℕ) (method : List ℕ) (request : LineMap) (resource : TargetState) (len : ℕ)
-    (limits : RangeLimits) (of_plan : Plan → X)
-    → ((xs ys : _) → of_plan (Multiple xs) ≡ of_plan (Multiple ys)) → (p q : Plan)
-    → IsPlan present method request resource len limits p → IsPlan present method request resource len limits q
-    → IsSamePlan (Some p) (Some q) → of_plan p ≡ of_plan q
+    (limits : RangeLimits) (of_plan : Plan → X) → ((xs ys : _) → of_plan (Multiple xs) ≡ of_plan (Multiple ys))
+    → (p q : Plan) → IsPlan present method request resource len limits p
+    → IsPlan present method request resource len limits q → IsSamePlan (Some p) (Some q) → of_plan p ≡ of_plan q
 same_by_plan present method request resource len limits of_plan alike Full Full h k same = refl
 same_by_plan present method request resource len limits of_plan alike NotModified NotModified h k same = refl
 same_by_plan present method request resource len limits of_plan alike Failed Failed h k same = refl

@@ -19,11 +19,10 @@ IsOrdered (x ∷ xs) = IsChain x xs
 
 later : (x : Reason) (xs : List Reason) → IsChain x xs → (s : Reason) → Among s xs → stage x ≤ stage s
 later x [] chain s among = absurd among
-later x (y ∷ ys) chain s among =
-    elim among [
-      | inl same ↦ subst (λ (r : Reason). stage x ≤ stage r) (sym same) chain.0
-      | inr rest ↦ let more = later y ys chain.1 s rest in omega (arith, chain.0, more)
-    ]
+later x (y ∷ ys) chain s among = elim among [
+  | inl same ↦ subst (λ (r : Reason). stage x ≤ stage r) (sym same) chain.0
+  | inr rest ↦ let more = later y ys chain.1 s rest in omega (arith, chain.0, more)
+]
 
 tail_ordered : (x : Reason) (xs : List Reason) → IsChain x xs → IsOrdered xs
 tail_ordered x [] chain = tt
@@ -65,14 +64,13 @@ last r = lit≤ tt
 -- what is found among the reasons in order is the first that applies
 pub first_in_order : (p : Reason → Bool) → p Reason.Admitted ≡ true → (found : Option Reason) → found ≡ find p in_order
     → IsFirst p (or_admitted found)
-first_in_order p admits None e =
-    record {
-      is = admits;
-      none_before = λ s before. elim (each s) [
-        | inl own ↦ let level : stage s ≡ 15 = ap stage own in absurd (omega (arith, level, before))
-        | inr among ↦ found_none p in_order (sym e) s among
-      ];
-    }
+first_in_order p admits None e = record {
+  is = admits;
+  none_before = λ s before. elim (each s) [
+    | inl own ↦ let level : stage s ≡ 15 = ap stage own in absurd (omega (arith, level, before))
+    | inr among ↦ found_none p in_order (sym e) s among
+  ];
+}
 first_in_order p admits (Some r) e =
     let first = found_first p in_order ordered r (sym e) in
     record {

@@ -27,8 +27,7 @@ conditions match none_match modified unmodified name =
     else (if bytes_eq (codes "if-unmodified-since") name then unmodified else [])))
 
 abbrev conditions_of : LineMap → LineMap
-conditions_of f =
-    conditions (f (codes "if-match")) (f (codes "if-none-match")) (f (codes "if-modified-since"))
+conditions_of f = conditions (f (codes "if-match")) (f (codes "if-none-match")) (f (codes "if-modified-since"))
     (f (codes "if-unmodified-since"))
 
 same_conditions : (r s : LineMap) → AskAlike r s → conditions_of r ≡ conditions_of s
@@ -89,12 +88,11 @@ module _ (present : ℕ) (method : List ℕ) (current : Validators) (len : ℕ) 
 module _ (present : ℕ) (method : List ℕ) (resource : TargetState) (len : ℕ) (limits : RangeLimits) (r s : LineMap)
     (same : AskAlike r s) where
   reads : (current : Validators) → Reads present method r resource current → Reads present method s resource current
-  reads current h =
-      record {
-        performs = answers present resource r s same method precondition.Perform h.performs;
-        is_read = h.is_read;
-        is_current = h.is_current;
-      }
+  reads current h = record {
+    performs = answers present resource r s same method precondition.Perform h.performs;
+    is_read = h.is_read;
+    is_current = h.is_current;
+  }
 
   planned : (plan : Plan) → IsPlan present method r resource len limits plan
       → IsPlan present method s resource len limits plan

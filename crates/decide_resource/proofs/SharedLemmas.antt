@@ -27,8 +27,7 @@ module _ (present : ℕ) (resource : Resource) (request : Request) (answer : Ans
       → request.fields (codes "origin") ≡ sent.origin ∷ []
       → CorsCheck (set_all before (fields_of answer.fields.items)) sent
       ↔ (AllowsOrigin rules sent.origin × AllowsCredentials rules sent.credentials)
-  check_of_answer rules sent lawful made origin =
-      subst
+  check_of_answer rules sent lawful made origin = subst
       (λ (m : LineMap). CorsCheck m sent ↔ (AllowsOrigin rules sent.origin × AllowsCredentials rules sent.credentials))
       (sym come_last)
       (check_is_policy rules policy request.method request.fields (varying (vary_lines resource answer.reason))

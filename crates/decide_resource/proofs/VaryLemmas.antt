@@ -100,8 +100,7 @@ module _ (present : ℕ) (resource : Resource) (request : Request) (answer : Ans
       choose : first (codes "vary") ≡ vary_lines resource answer.reason → (b : Bool)
           → final ≡ (if b then vary_lines resource answer.reason ++ codes "origin" ∷ [] else first (codes "vary"))
           → nominates final name ≡ true
-      choose f true g =
-          subst (λ (ls : List Line). nominates ls name ≡ true) (sym g)
+      choose f true g = subst (λ (ls : List Line). nominates ls name ≡ true) (sym g)
           (before_others (vary_lines resource answer.reason) (codes "origin" ∷ []) name e)
       choose f false g = subst (λ (ls : List Line). nominates ls name ≡ true) (sym (g ∙ f)) e
 
@@ -143,8 +142,7 @@ module _ (present : ℕ) (resource : Resource) (request : Request) (answer : Ans
         by None e = rw e refl
         by (Some listed) e =
             let ls = vary_lines resource answer.reason in
-            let f : final ≡ ls ++ codes "origin" ∷ [] =
-            final_by (Some policy) c ∙ ap
+            let f : final ≡ ls ++ codes "origin" ∷ [] = final_by (Some policy) c ∙ ap
             (λ (o : Option (List Line)). if is_some o then ls ++ codes "origin" ∷ [] else first (codes "vary")) e in
             let names : nominates final (codes "origin") ≡ true =
             subst (λ (lines : List Line). nominates lines (codes "origin") ≡ true) (sym f)
@@ -154,9 +152,8 @@ module _ (present : ℕ) (resource : Resource) (request : Request) (answer : Ans
 -- ---- what depends on the other fields alone
 
 abbrev fields_with : List Line → List Line → List Line → List Line → LineMap
-fields_with host expect type coding name =
-    if bytes_eq (codes "host") name then host else (if bytes_eq (codes "expect") name then expect
-    else (if bytes_eq (codes "content-type") name then type
+fields_with host expect type coding name = if bytes_eq (codes "host") name then host else
+    (if bytes_eq (codes "expect") name then expect else (if bytes_eq (codes "content-type") name then type
     else (if bytes_eq (codes "content-encoding") name then coding else [])))
 
 -- a request of what the reasons read, but for those after the selection and for a part that PUT doesn't take
@@ -165,9 +162,8 @@ built : Protocol → List ℕ → Option Line → RequestContent → Option Deni
 built protocol method authority content denied host expect type coding = grind arith
 
 abbrev read_of : Request → Request
-read_of q =
-    built q.protocol q.method q.authority q.content q.denied (q.fields (codes "host")) (q.fields (codes "expect"))
-    (q.fields (codes "content-type")) (q.fields (codes "content-encoding"))
+read_of q = built q.protocol q.method q.authority q.content q.denied (q.fields (codes "host"))
+    (q.fields (codes "expect")) (q.fields (codes "content-type")) (q.fields (codes "content-encoding"))
 
 same_read : (r s : Request) → AreAlike r s → read_of r ≡ read_of s
 same_read r s h = grind (arith)
@@ -220,19 +216,18 @@ module _ (present : ℕ) (resource : Resource) (r s : Request) (alike : AreAlike
   pub same_first : (reason : Reason)
       → (depends_on_selection reason ≡ true → SelectAlike resource.negotiation r.fields s.fields)
       → IsFirst (applies present resource r) reason → IsFirst (applies present resource s) reason
-  same_first reason select h =
-      grind (
-        arith,
-        cases_Bool,
-        reason,
-        first_alike,
-        applies,
-        resource,
-        all_reasons,
-        early,
-        same_reason,
-        before_selection,
-      )
+  same_first reason select h = grind (
+    arith,
+    cases_Bool,
+    reason,
+    first_alike,
+    applies,
+    resource,
+    all_reasons,
+    early,
+    same_reason,
+    before_selection,
+  )
 
   pub gives_alike : (b : Bool) (reason : Reason) (status : Option ℕ) (sent : Sends) (fields : List Field)
       → (b ≡ true → SelectAlike resource.negotiation r.fields s.fields)
@@ -247,16 +242,14 @@ module _ (present : ℕ) (resource : Resource) (r s : Request) (alike : AreAlike
       record {
         place = h.place;
         selected = same_selected resource r.fields s.fields (scores alike_select) h.place h.selected;
-        goes =
-            record {
-              response = h.goes.response;
-              answered =
-                  answered present s.method target (content_of rep) resource.boundary r.fields s.fields alike.asks
-                  h.goes.response with_method;
-              has_status = h.goes.has_status;
-              sends = h.goes.sends;
-              has_fields = h.goes.has_fields ∙ known alike_select rep h.goes.response;
-            };
+        goes = record {
+          response = h.goes.response;
+          answered = answered present s.method target (content_of rep) resource.boundary r.fields s.fields
+              alike.asks h.goes.response with_method;
+          has_status = h.goes.has_status;
+          sends = h.goes.sends;
+          has_fields = h.goes.has_fields ∙ known alike_select rep h.goes.response;
+        };
       }
   gives_alike false reason status sent fields select h = grind (arith, alike, same_fields)
 
@@ -291,6 +284,7 @@ vary_is_sound present resource r s a b before h k alike other v =
       status = given.status;
       sends = given.sends;
       fields = h.fields ∙ ap (λ (own : List Field). (own ++ vary_fields (vary_lines resource a.reason)) ++ h.shared)
-          given.fields ∙ ap (λ (rest : List Field). (k.own ++ vary_fields (vary_lines resource a.reason)) ++ rest) shared ∙
-          ap (λ (q : Reason). (k.own ++ vary_fields (vary_lines resource q)) ++ k.shared) (sym reason) ∙ sym k.fields;
+          given.fields
+          ∙ ap (λ (rest : List Field). (k.own ++ vary_fields (vary_lines resource a.reason)) ++ rest) shared
+          ∙ ap (λ (q : Reason). (k.own ++ vary_fields (vary_lines resource q)) ++ k.shared) (sym reason) ∙ sym k.fields;
     }

@@ -37,8 +37,7 @@ module _ {K : Type 0} where
   distinct_placed : (p : List ℕ) (k : K) (rows : RowsOf K) → LacksPattern p rows → IsDistinct rows
       → IsDistinct (placed (p, k) rows)
   distinct_placed p k [] all distinct = (tt, tt)
-  distinct_placed p k ((t, key) ∷ rows) all distinct =
-      by (comes_before p t) (distinct_placed p k rows all.1 distinct.1)
+  distinct_placed p k ((t, key) ∷ rows) all distinct = by (comes_before p t) (distinct_placed p k rows all.1 distinct.1)
     where
       by : (v : Bool) → IsDistinct (placed (p, k) rows)
           → IsDistinct (cond v ((p, k) ∷ (t, key) ∷ rows) ((t, key) ∷ placed (p, k) rows))
@@ -47,6 +46,5 @@ module _ {K : Type 0} where
 
 pub distinct_inserted : {T : Type 0} (old new : RowsOf (RouteOf T)) (route : RouteOf T) → IsDistinct old
     → Inserted route old new (Ok tt) → IsDistinct new
-distinct_inserted old new route distinct inserted =
-    subst IsDistinct (sym inserted.1)
+distinct_inserted old new route distinct inserted = subst IsDistinct (sym inserted.1)
     (distinct_placed route.pattern route old (lacks route.pattern (None, 0) old inserted.0) distinct)

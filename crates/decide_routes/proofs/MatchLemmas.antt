@@ -58,23 +58,21 @@ byte_matches b p path m = by (b == param_token) refl (b == catch_all_token)
 part_matches : (n b : ℕ) (path p : List ℕ) → 0 < n → has_slash (take n (b ∷ path)) ≡ false
     → Matches p (drop (n - 1) path) → Matches (param_token ∷ p) (b ∷ path)
 part_matches zero b path p some within m = absurd (omega (arith, some))
-part_matches (suc n) b path p some within m =
-    record {
-      part = take (suc n) (b ∷ path);
-      rest = drop n path;
-      whole = sym (take-append-drop (suc n) (b ∷ path));
-      some = omega arith;
-      within = within;
-      goes_on = subst (λ (k : ℕ). Matches p (drop k path)) (one_less n) m;
-    }
+part_matches (suc n) b path p some within m = record {
+  part = take (suc n) (b ∷ path);
+  rest = drop n path;
+  whole = sym (take-append-drop (suc n) (b ∷ path));
+  some = omega arith;
+  within = within;
+  goes_on = subst (λ (k : ℕ). Matches p (drop k path)) (one_less n) m;
+}
 
 module _ {K : Type 0} where
   -- a suffix that was chosen leaves something of the segment
   longest_short : (seg best : List ℕ) (rows : RowsOf K) → (best ≡ []) ⊎ (length best < length seg)
       → (longest_from seg best rows ≡ []) ⊎ (length (longest_from seg best rows) < length seg)
   longest_short seg best [] h = h
-  longest_short seg best ((t, key) ∷ rows) h =
-      longest_short seg (better seg best (segment t)) rows
+  longest_short seg best ((t, key) ∷ rows) h = longest_short seg (better seg best (segment t)) rows
       (next (ltb (length best) (length (segment t))) (cuts seg (segment t)) refl)
     where
       next : (u v : Bool) → cuts seg (segment t) ≡ v
@@ -135,23 +133,17 @@ module _ {K : Type 0} where
   param_takes : (rows : RowsOf K) (b : ℕ) (path p : List ℕ) (k : K) → IsIn p k (param_step rows (b ∷ path)).1
       → TakesSome rows (b ∷ path) p k (param_step rows (b ∷ path)).0
   unfolding param_step
-  param_takes rows b path p k i =
-      by (longest_suffix seg rows) (longest_short seg [] rows (inl refl))
-      (ltb 0 (length (longest_suffix seg rows))) refl
-      (has_slash (b ∷ path)) refl i
+  param_takes rows b path p k i = by (longest_suffix seg rows) (longest_short seg [] rows (inl refl))
+      (ltb 0 (length (longest_suffix seg rows))) refl (has_slash (b ∷ path)) refl i
     where
       seg : List ℕ
       seg = segment (b ∷ path)
 
       stepped : List ℕ → Bool → Bool → ℕ × RowsOf K
-      stepped s u v =
-          cond u (length seg - length s, with_suffix s rows) (cond v (0, []) (length (b ∷ path), rows))
+      stepped s u v = cond u (length seg - length s, with_suffix s rows) (cond v (0, []) (length (b ∷ path), rows))
 
       by : (s : List ℕ) → (s ≡ []) ⊎ (length s < length seg) → (u : Bool) → ltb 0 (length s) ≡ u → (v : Bool)
-          → has_slash (b ∷ path) ≡ v
-          → IsIn p k (stepped s u v).1
-          → TakesSome rows (b ∷ path) p k
-          (stepped s u v).0
+          → has_slash (b ∷ path) ≡ v → IsIn p k (stepped s u v).1 → TakesSome rows (b ∷ path) p k (stepped s u v).0
       by s (inl none) true e v f i =
           let no : ltb 0 (length {A = ℕ} []) ≡ true = subst (λ (t : List ℕ). ltb 0 (length t) ≡ true) none e in
           absurd (cc no)
@@ -163,12 +155,11 @@ module _ {K : Type 0} where
             is_row = suffix_in s rows p k i;
           }
       by s short false e true f i = absurd i
-      by s short false e false f i =
-          record {
-            some = omega arith;
-            within = ap has_slash (take-length (b ∷ path)) ∙ f;
-            is_row = i;
-          }
+      by s short false e false f i = record {
+        some = omega arith;
+        within = ap has_slash (take-length (b ∷ path)) ∙ f;
+        is_row = i;
+      }
 
   -- ---- the route that is found
 
@@ -180,31 +171,24 @@ module _ {K : Type 0} where
   seek_matches : (path : List ℕ) (skip : ℕ) (rows : RowsOf K) (k : K) → seek skip rows path ≡ Some k
       → IsMatched rows k (drop skip path)
   unfolding seek
-  seek_matches [] skip rows k e =
-      record { pattern = []; is_row = own_in rows k e; matches = drop_nothing skip }
+  seek_matches [] skip rows k e = record { pattern = []; is_row = own_in rows k e; matches = drop_nothing skip }
   seek_matches (b ∷ path) (suc skip) rows k e = seek_matches path skip rows k e
-  seek_matches (b ∷ path) zero rows k e =
-      by (seek 0 (step b rows) path) (seek_matches path 0 (step b rows) k)
-      (
+  seek_matches (b ∷ path) zero rows k e = by (seek 0 (step b rows) path) (seek_matches path 0 (step b rows) k) (
       seek ((param_step (step param_token rows) (b ∷ path)).0 - 1) (param_step (step param_token rows) (b ∷ path)).1
       path
-      )
-      (
+      ) (
       seek_matches path ((param_step (step param_token rows) (b ∷ path)).0 - 1)
       (param_step (step param_token rows) (b ∷ path)).1 k
-      )
-      e
+      ) e
     where
       at_byte : IsMatched (step b rows) k path → IsMatched rows k (b ∷ path)
-      at_byte found =
-          record {
-            pattern = b ∷ found.pattern;
-            is_row = step_in b rows found.pattern k found.is_row;
-            matches = byte_matches b found.pattern path found.matches;
-          }
+      at_byte found = record {
+        pattern = b ∷ found.pattern;
+        is_row = step_in b rows found.pattern k found.is_row;
+        matches = byte_matches b found.pattern path found.matches;
+      }
 
-      at_param :
-          IsMatched (param_step (step param_token rows) (b ∷ path)).1 k
+      at_param : IsMatched (param_step (step param_token rows) (b ∷ path)).1 k
           (drop ((param_step (step param_token rows) (b ∷ path)).0 - 1) path) → IsMatched rows k (b ∷ path)
       at_param found =
           let takes = param_takes (step param_token rows) b path found.pattern k found.is_row in
@@ -215,12 +199,11 @@ module _ {K : Type 0} where
           }
 
       at_end : own (step catch_all_token rows) ≡ Some k → IsMatched rows k (b ∷ path)
-      at_end h =
-          record {
-            pattern = catch_all_token ∷ [];
-            is_row = step_in catch_all_token rows [] k (own_in (step catch_all_token rows) k h);
-            matches = omega arith;
-          }
+      at_end h = record {
+        pattern = catch_all_token ∷ [];
+        is_row = step_in catch_all_token rows [] k (own_in (step catch_all_token rows) k h);
+        matches = omega arith;
+      }
 
       by : (first : Option K) → (first ≡ Some k → IsMatched (step b rows) k path) → (second : Option K)
           → (second ≡ Some k → IsMatched (param_step (step param_token rows) (b ∷ path)).1 k

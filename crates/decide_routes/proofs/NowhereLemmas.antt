@@ -29,8 +29,7 @@ flip a b e = (bytes_eq-Decides b a).1 (sym ((bytes_eq-Decides a b).0 e))
 
 -- a rule is found where one of the methods is the rule's
 found_by : (own : List ℕ) (rules : List MethodRule)
-    → is_some (find (λ (rule : MethodRule). bytes_eq rule.method own) rules)
-    ≡ list_any (is_of own) (map told_of rules)
+    → is_some (find (λ (rule : MethodRule). bytes_eq rule.method own) rules) ≡ list_any (is_of own) (map told_of rules)
 found_by own [] = refl
 found_by own (rule ∷ rules) = by (bytes_eq rule.method own) (found_by own rules)
   where
@@ -77,8 +76,7 @@ module _ (resource : Resource)
   has_implemented : (m : List ℕ) → is_implemented resource.implemented.items m ≡ true
       → has_method resource.rules.items m ≡ true
   unfolding rule_for
-  has_implemented m implemented =
-      later (bytes_eq m (codes "OPTIONS")) _
+  has_implemented m implemented = later (bytes_eq m (codes "OPTIONS")) _
       (found_by (ruled m) resource.rules.items ∙ ap (list_any (is_of (ruled m))) rules
       ∙ ruled_any m resource.implemented.items implemented)
 
@@ -193,16 +191,12 @@ module _ (resource : Resource) (nowhere : IsNowhere resource) where
 
   missing : (present : ℕ) (request : Request) → applies present resource request NotFound ≡ true
   unfolding rule_for
-  missing present request =
-      ap
-      (λ (s : State). is_missing s rules
+  missing present request = ap (λ (s : State). is_missing s rules
       (find (λ (r : MethodRule). bytes_eq r.method (ruled request.method)) rules) request.method) nowhere.absent
       ∙ ap not (by (bytes_eq request.method (codes "OPTIONS")))
     where
-      by : (b : Bool)
-          → (if b then list_any (λ (r : MethodRule). r.creates) rules
-          else creates (find (λ (r : MethodRule). bytes_eq r.method (ruled request.method)) rules))
-          ≡ false
+      by : (b : Bool) → (if b then list_any (λ (r : MethodRule). r.creates) rules
+          else creates (find (λ (r : MethodRule). bytes_eq r.method (ruled request.method)) rules)) ≡ false
       by true = some_makes rules ∙ none_makes
       by false = idle_found (ruled request.method) rules none_makes
 
@@ -217,15 +211,12 @@ module _ (resource : Resource) (nowhere : IsNowhere resource) where
 module _ (resource : Resource) (wide : IsServerWide resource) (present : ℕ) (request : Request) (answer : Answer)
     (is : IsAnswer present resource request answer) where
   general : applies present resource request NotFound ≡ not (bytes_eq request.method (codes "OPTIONS"))
-  general =
-      ap
+  general = ap
       (λ (s : State). is_missing s resource.rules.items (rule_for resource.rules.items request.method) request.method)
       wide.general
 
-  pub others_missing : request.method ≢ codes "OPTIONS"
-      → Before answer.reason NotFound ⊎ (answer.status ≡ Some 404)
-  others_missing other =
-      answered present resource request (ap has_moved wide.general) (ap is_gone wide.general)
+  pub others_missing : request.method ≢ codes "OPTIONS" → Before answer.reason NotFound ⊎ (answer.status ≡ Some 404)
+  others_missing other = answered present resource request (ap has_moved wide.general) (ap is_gone wide.general)
       (general ∙ ap not (unequal (bytes_eq request.method (codes "OPTIONS")) refl)) answer.reason answer.status
       answer.sends is.own is.first is.gives
     where

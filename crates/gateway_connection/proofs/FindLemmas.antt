@@ -67,8 +67,7 @@ module _ (c new : Client) (input : List ℕ) (spans : List HeaderSpan) where
 
   tells_first : (idle : Bool) (read : Progress Spans) → c.reading ≡ Reads.Head → awaits_head c.writing ≡ idle
       → ReadsFirst idle c input spans new read → Tells read.consumed read.event
-  tells_first true read is idle found =
-      subst (λ (p : Progress Spans). Tells p.consumed p.event) (sym found.1)
+  tells_first true read is idle found = subst (λ (p : Progress Spans). Tells p.consumed p.event) (sym found.1)
       (subst (λ (r : Reading). WaitsAt r c input new input) (sym is)
       (found.2, refl, inl (idle, no_items input found.0)))
     where

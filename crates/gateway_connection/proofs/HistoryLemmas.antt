@@ -399,8 +399,7 @@ module _ {k : Frame} {c : Client} {input : List ℕ} where
 
     interim_now : is_interim (status_code h) ≡ true → (now : Now) → Goes k c input now
         → Goes k (after_head c h framing) rest (tell (Is.Interim (response_of h)) now)
-    interim_now low =
-        asked (λ now. Goes k (after_head c h framing) rest (tell (Is.Interim (response_of h)) now))
+    interim_now low = asked (λ now. Goes k (after_head c h framing) rest (tell (Is.Interim (response_of h)) now))
         (λ r interim g accepted. rw (interim_stays c h framing low) (record {
           since = g.since;
           limited = g.limited;
@@ -412,8 +411,7 @@ module _ {k : Frame} {c : Client} {input : List ℕ} where
 
     head_now : is_interim (status_code h) ≡ false → switches c (status_code h) ≡ false → (now : Now)
         → Goes k c input now → Goes k (after_head c h framing) rest (tell (Is.Head (response_of h)) now)
-    head_now final stays =
-        asked (λ now. Goes k (after_head c h framing) rest (tell (Is.Head (response_of h)) now))
+    head_now final stays = asked (λ now. Goes k (after_head c h framing) rest (tell (Is.Head (response_of h)) now))
         (λ r interim g accepted. rw (final_stays c h framing final stays) (record {
           since = g.since;
           limited = g.limited;
@@ -442,8 +440,7 @@ module _ {k : Frame} {c : Client} {input : List ℕ} where
 
     switched_now : switches c (status_code h) ≡ true → (now : Now) → Goes k c input now
         → Goes k (after_head c h framing) rest (tell (Is.Switched (response_of h)) now)
-    switched_now switched =
-        asked (λ now. Goes k (after_head c h framing) rest (tell (Is.Switched (response_of h)) now))
+    switched_now switched = asked (λ now. Goes k (after_head c h framing) rest (tell (Is.Switched (response_of h)) now))
         (λ r interim g accepted. rw switched (record {
           since = g.since;
           limited = g.limited;

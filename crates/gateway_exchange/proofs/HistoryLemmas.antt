@@ -333,8 +333,7 @@ module _ (limits : Limits) (uses : Uses) (lines : List Traffic) where
     refl,
   )
 
-  client_connects : (old new : StreamConnection) → StreamSteps.Switches old 200 (codes "OK") [] new
-      → ClientGoes old new
+  client_connects : (old new : StreamConnection) → StreamSteps.Switches old 200 (codes "OK") [] new → ClientGoes old new
   client_connects old new switches = λ p r s.
       let b : Bare = record { minor = old.server.request.minor; status = 200; reason = codes "OK"; headers = [] } in (
         Stream.answers (Switched b) p,
@@ -802,8 +801,7 @@ module _ (limits : Limits) (uses : Uses) (lines : List Traffic) where
       c.request c.interim asked.decided forwarded puts tt (reached_in c o x.3) c.sends c.told))) in
       let judged : Judged uses m.asked (head_of p.heard) (Some h) =
       record { a = a; asked_is = asked; h = h; is = refl; forwarded = forwarded } in
-      let shown : Shows (Begun r) h =
-      record { content = []; response = r; is = refl; whole = refl; puts = puts } in
+      let shown : Shows (Begun r) h = record { content = []; response = r; is = refl; whole = refl; puts = puts } in
       after p (last ∙ ap (λ (g : GatewayConnection). record g { heard = Some h }) put.1)
       (Stream.answers (Begun r) p, o, ((x.0, reached, served, x.3), (judged, shown, c)), refl, refl)
   shows m between new h a p o asked (inr f) last x c forwarded =
@@ -911,8 +909,7 @@ module _ (limits : Limits) (uses : Uses) (lines : List Traffic) where
   shown m new piece p o at j s c put x =
       let r : Response = Stream.with_piece piece s.response in
       let puts : HasHead j.h (s.content ++ piece) r = head_on j.h s.content s.response (s.content ++ piece) r.pieces
-      r.trailers s.puts
-      (concat-append s.response.pieces (piece ∷ [])
+      r.trailers s.puts (concat-append s.response.pieces (piece ∷ [])
       ∙ ap (λ (t : List ℕ). concat s.response.pieces ++ t) (append-nil piece)
       ∙ ap (λ (t : List ℕ). t ++ piece) s.puts.content_is) in
       let q : Stream.Past = Stream.answers (Stream.change (Stream.with_piece piece) p.answer.final) p in
@@ -974,8 +971,7 @@ module _ (limits : Limits) (uses : Uses) (lines : List Traffic) where
   passes_end rules old new origin trailers p o among says j s c (inr e) x =
       (goes_end (heard_origin old origin (Comes.End trailers) says)
       (goes_end (client_alone (with_origin old origin) new.client
-      (end_refused rules.gateway j.h trailers old.client new.client e.0 e.1))
-      (ends e.2 (λ p o x. (x, tt))))).step p o x
+      (end_refused rules.gateway j.h trailers old.client new.client e.0 e.1)) (ends e.2 (λ p o x. (x, tt))))).step p o x
 
   -- ---- steps
 
@@ -1003,8 +999,7 @@ module _ (limits : Limits) (uses : Uses) (lines : List Traffic) where
       let t = tied_at old p o At.Forwarding at h in
       let s = says_in old.origin origin t.1.connection (Comes.Head response) t.1.is says in
       passes_head rules date (with_origin old origin) new t.0.a response p (record o {
-        now = Origin.tell
-            (Comes.Head response) o.now;
+        now = Origin.tell (Comes.Head response) o.now;
       }) among (says_final t.1.connection s.0 response s.2) t.0.asked_is (of_known
       t.0.a t.0.asked_is.is d.1) (h.0.0, h.0.1, h.0.2, origin_says old.origin origin (Comes.Head response) says o h.0.3)
       (carries_said (Comes.Head response) says t.1 t.1.interim refl)
@@ -1092,8 +1087,7 @@ module _ (limits : Limits) (uses : Uses) (lines : List Traffic) where
         let a : AskedRequest = record { head = head; outgoing = outgoing } in
         let is_decided : IsDecided uses a =
         (rules, among, subst (λ (peer : Peer). IsDecision rules peer head (Decides.Send outgoing)) x.0 decided) in
-        let asked : IsAsked uses (Some a) (Some head) a =
-        record { is = refl; head_is = refl; decided = is_decided } in
+        let asked : IsAsked uses (Some a) (Some head) a = record { is = refl; head_is = refl; decided = is_decided } in
         let waits : Waiting uses (Some a) (sent_fields (begun old)) (Some head) =
         record { a = a; asked_is = asked; are = inl refl } in
         let reached = Stream.Said old.client client p (Is.Head head) x.1 says in
@@ -1374,8 +1368,7 @@ module _ (limits : Limits) (uses : Uses) (lines : List Traffic) where
   ends_idle_as old new event is = ends is (λ p o x. (x, tt))
 
   ends_idle : (old new : GatewayConnection) → EndsIdle old new → Leads old new
-  ends_idle old new h =
-      freely (goes_end (client_alone old h.2 (client_then (client_finishes old.client h.0 h.3)
+  ends_idle old new h = freely (goes_end (client_alone old h.2 (client_then (client_finishes old.client h.0 h.3)
       (client_says h.0 h.2 h.1 h.4))) (ends_idle_as (with_client old h.2) new h.1 h.5))
 
   times_out : (phase : ExchangePhase) (old new : GatewayConnection) → TimesOutAt phase old new → Leads old new

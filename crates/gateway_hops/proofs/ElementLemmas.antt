@@ -19,12 +19,10 @@ is_special b = b == quote || b == backslash
 -- ---- validity
 
 escaped_valid : (b : ℕ) → IsValueByte b → IsFieldValue (escaped b)
-escaped_valid b valid =
-    elim (cases_Bool (is_special b)) [
-      | inl t ↦ rw t (All-cons IsValueByte backslash (b ∷ []) refl
-          (All-cons IsValueByte b [] valid (All-nil IsValueByte)))
-      | inr f ↦ rw f (All-cons IsValueByte b [] valid (All-nil IsValueByte))
-    ]
+escaped_valid b valid = elim (cases_Bool (is_special b)) [
+  | inl t ↦ rw t (All-cons IsValueByte backslash (b ∷ []) refl (All-cons IsValueByte b [] valid (All-nil IsValueByte)))
+  | inr f ↦ rw f (All-cons IsValueByte b [] valid (All-nil IsValueByte))
+]
 
 all_escaped_valid : (octets : Line) → IsFieldValue octets → IsFieldValue (flat_map escaped octets)
 all_escaped_valid [] valid = All-nil IsValueByte
@@ -33,30 +31,25 @@ all_escaped_valid (b ∷ octets) valid =
     (all_escaped_valid octets (All-tail IsValueByte b octets valid))
 
 quoted_valid : (octets : Line) → IsFieldValue octets → IsFieldValue (quoted_text octets)
-quoted_valid octets valid =
-    All-cons IsValueByte quote (flat_map escaped octets ++ quote ∷ []) refl
+quoted_valid octets valid = All-cons IsValueByte quote (flat_map escaped octets ++ quote ∷ []) refl
     (join_valid (flat_map escaped octets) (quote ∷ []) (all_escaped_valid octets valid)
     (All-cons IsValueByte quote [] refl (All-nil IsValueByte)))
 
 value_valid : (octets : Line) → IsFieldValue octets → IsFieldValue (value_text (value_of octets))
-value_valid octets valid =
-    elim (cases_Bool (is_token octets)) [
-      | inl t ↦ rw t valid
-      | inr f ↦ rw f (quoted_valid octets valid)
-    ]
+value_valid octets valid = elim (cases_Bool (is_token octets)) [
+  | inl t ↦ rw t valid
+  | inr f ↦ rw f (quoted_valid octets valid)
+]
 
-pub pair_valid : (name octets : Line) → IsFieldValue name → IsFieldValue octets
-    → IsFieldValue (pair_text name octets)
-pair_valid name octets named valid =
-    join_valid name (codes "=" ++ value_text (value_of octets)) named
+pub pair_valid : (name octets : Line) → IsFieldValue name → IsFieldValue octets → IsFieldValue (pair_text name octets)
+pair_valid name octets named valid = join_valid name (codes "=" ++ value_text (value_of octets)) named
     (join_valid (codes "=") (value_text (value_of octets)) (AllPass-from_test is_value_byte (codes "=") refl)
     (value_valid octets valid))
 
 pub optional_valid : (name octets : Line) → IsFieldValue name → IsFieldValue octets
     → IsFieldValue (optional_pair name (Some octets))
-optional_valid name octets named valid =
-    join_valid (codes ";") (pair_text name octets) (AllPass-from_test is_value_byte (codes ";") refl)
-    (pair_valid name octets named valid)
+optional_valid name octets named valid = join_valid (codes ";") (pair_text name octets)
+    (AllPass-from_test is_value_byte (codes ";") refl) (pair_valid name octets named valid)
 
 pub scheme_valid : (scheme : Scheme) → IsFieldValue (scheme_text scheme)
 scheme_valid Http = AllPass-from_test is_value_byte (codes "http") refl
@@ -72,44 +65,38 @@ plain_escape b valid f =
 quoted_step : (b : ℕ) (rest : List ℕ) → IsTrue (is_value_byte b)
     → is_quoted_text false (escaped b ++ rest) ≡ is_quoted_text false rest
 unfolding is_quoted_text
-quoted_step b rest valid =
-    elim (cases_Bool (is_special b)) [
-      | inl t ↦ rw t (rw valid refl)
-      | inr f ↦ rw f (ap (λ (o : Option Bool). option_map_or (λ next. is_quoted_text next rest) o false)
-          (plain_escape b valid f))
-    ]
+quoted_step b rest valid = elim (cases_Bool (is_special b)) [
+  | inl t ↦ rw t (rw valid refl)
+  | inr f ↦ rw f (ap (λ (o : Option Bool). option_map_or (λ next. is_quoted_text next rest) o false)
+      (plain_escape b valid f))
+]
 
 quoted_parses : (octets : Line) → IsFieldValue octets → is_quoted_text false (flat_map escaped octets) ≡ true
 unfolding is_quoted_text
 quoted_parses [] valid = refl
-quoted_parses (b ∷ octets) valid =
-    quoted_step b (flat_map escaped octets) (All-head IsValueByte b octets valid)
+quoted_parses (b ∷ octets) valid = quoted_step b (flat_map escaped octets) (All-head IsValueByte b octets valid)
     ∙ quoted_parses octets (All-tail IsValueByte b octets valid)
 
 octets_step : (b : ℕ) (rest : List ℕ) → octets_from false (escaped b ++ rest) ≡ b ∷ octets_from false rest
 unfolding octets_from
-octets_step b rest =
-    elim (cases_Bool (is_special b)) [
-      | inl t ↦ rw t refl
-      | inr f ↦ let p = or_parts (b == quote) (b == backslash) f in rw f (rw p.1 refl)
-    ]
+octets_step b rest = elim (cases_Bool (is_special b)) [
+  | inl t ↦ rw t refl
+  | inr f ↦ let p = or_parts (b == quote) (b == backslash) f in rw f (rw p.1 refl)
+]
 
 quoted_means : (octets : Line) → octets_from false (flat_map escaped octets) ≡ octets
 unfolding octets_from
 quoted_means [] = refl
-quoted_means (b ∷ octets) =
-    octets_step b (flat_map escaped octets) ∙ ap (λ (s : List ℕ). b ∷ s) (quoted_means octets)
+quoted_means (b ∷ octets) = octets_step b (flat_map escaped octets) ∙ ap (λ (s : List ℕ). b ∷ s) (quoted_means octets)
 
 pub value_parses : (octets : Line) → IsFieldValue octets → is_value (value_of octets) ≡ true
-value_parses octets valid =
-    elim (cases_Bool (is_token octets)) [
-      | inl t ↦ rw t t
-      | inr f ↦ rw f (quoted_parses octets valid)
-    ]
+value_parses octets valid = elim (cases_Bool (is_token octets)) [
+  | inl t ↦ rw t t
+  | inr f ↦ rw f (quoted_parses octets valid)
+]
 
 pub value_means : (octets : Line) → octets_of (value_of octets) ≡ octets
-value_means octets =
-    elim (cases_Bool (is_token octets)) [
-      | inl t ↦ rw t refl
-      | inr f ↦ rw f (quoted_means octets)
-    ]
+value_means octets = elim (cases_Bool (is_token octets)) [
+  | inl t ↦ rw t refl
+  | inr f ↦ rw f (quoted_means octets)
+]

@@ -26,21 +26,18 @@ record IsListed (text : Line) : Type 0 where
   written : Grammar.element_text parts ≡ text
   valid : is_element comma true parts ≡ true
 
-element_text-append : (p q : Element)
-    → Grammar.element_text (p ++ q) ≡ Grammar.element_text p ++ Grammar.element_text q
+element_text-append : (p q : Element) → Grammar.element_text (p ++ q) ≡ Grammar.element_text p ++ Grammar.element_text q
 element_text-append [] q = refl
-element_text-append (part ∷ p) q =
-    ap (λ (s : Line). Grammar.part_text part ++ s) (element_text-append p q)
+element_text-append (part ∷ p) q = ap (λ (s : Line). Grammar.part_text part ++ s) (element_text-append p q)
     ∙ sym (append_assoc (Grammar.part_text part) (Grammar.element_text p) (Grammar.element_text q))
 
 both_listed : (s t : Line) → IsListed s → IsListed t → IsListed (s ++ t)
-both_listed s t a b =
-    record {
-      parts = a.parts ++ b.parts;
-      written = element_text-append a.parts b.parts
-          ∙ ap (λ (x : Line). x ++ Grammar.element_text b.parts) a.written ∙ ap (λ (x : Line). s ++ x) b.written;
-      valid = list_all-append (Grammar.is_part comma true) a.parts b.parts ∙ and_from _ _ a.valid b.valid;
-    }
+both_listed s t a b = record {
+  parts = a.parts ++ b.parts;
+  written = element_text-append a.parts b.parts
+      ∙ ap (λ (x : Line). x ++ Grammar.element_text b.parts) a.written ∙ ap (λ (x : Line). s ++ x) b.written;
+  valid = list_all-append (Grammar.is_part comma true) a.parts b.parts ∙ and_from _ _ a.valid b.valid;
+}
 
 none_listed : IsListed []
 none_listed = record { parts = []; written = refl; valid = refl }
@@ -86,45 +83,39 @@ octet_written b = elim (cases_Bool (is_special b)) [ inl t ↦ rw t refl | inr f
 
 octet_valid : (b : ℕ) → IsTrue (is_value_byte b) → is_octet true (octet_of b) ≡ true
 unfolding octet_of
-octet_valid b valid =
-    elim (cases_Bool (is_special b)) [
-      | inl t ↦ rw t (rw valid refl)
-      | inr f ↦ let p = or_parts (b == quote) (b == backslash) f in rw f (rw (valid, p.0, p.1) refl)
-    ]
+octet_valid b valid = elim (cases_Bool (is_special b)) [
+  | inl t ↦ rw t (rw valid refl)
+  | inr f ↦ let p = or_parts (b == quote) (b == backslash) f in rw f (rw (valid, p.0, p.1) refl)
+]
 
 octets_written : (s : Line) → flat_map octet_text (map octet_of s) ≡ flat_map escaped s
 octets_written [] = refl
-octets_written (b ∷ s) =
-    ap (λ (x : Line). x ++ flat_map octet_text (map octet_of s)) (octet_written b)
+octets_written (b ∷ s) = ap (λ (x : Line). x ++ flat_map octet_text (map octet_of s)) (octet_written b)
     ∙ ap (λ (x : Line). escaped b ++ x) (octets_written s)
 
 octets_valid : (s : Line) → IsFieldValue s → list_all (is_octet true) (map octet_of s) ≡ true
 octets_valid [] valid = refl
-octets_valid (b ∷ s) valid =
-    and_from _ _ (octet_valid b (All-head (λ c. IsTrue (is_value_byte c)) b s valid))
+octets_valid (b ∷ s) valid = and_from _ _ (octet_valid b (All-head (λ c. IsTrue (is_value_byte c)) b s valid))
     (octets_valid s (All-tail (λ c. IsTrue (is_value_byte c)) b s valid))
 
 quoted_listed : (s : Line) → IsFieldValue s → IsListed (quoted_text s)
-quoted_listed s valid =
-    record {
-      parts = Quoted (map octet_of s) ∷ [];
-      written = append-nil (quote ∷ (flat_map octet_text (map octet_of s) ++ quote ∷ []))
-          ∙ ap (λ (x : Line). quote ∷ (x ++ quote ∷ [])) (octets_written s);
-      valid = and_from _ _ (octets_valid s valid) refl;
-    }
+quoted_listed s valid = record {
+  parts = Quoted (map octet_of s) ∷ [];
+  written = append-nil (quote ∷ (flat_map octet_text (map octet_of s) ++ quote ∷ []))
+      ∙ ap (λ (x : Line). quote ∷ (x ++ quote ∷ [])) (octets_written s);
+  valid = and_from _ _ (octets_valid s valid) refl;
+}
 
 value_listed : (s : Line) → IsFieldValue s → IsListed (value_text (value_of s))
-value_listed s valid =
-    elim (cases_Bool (is_token s)) [
-      | inl t ↦
-          let bytes = (and_parts (not (length s == 0)) (list_all is_token_byte s) t).1 in
-          rw t (bytes_listed s (list_all-weaker is_token_byte (is_bare comma) token_bare s bytes))
-      | inr f ↦ rw f (quoted_listed s valid)
-    ]
+value_listed s valid = elim (cases_Bool (is_token s)) [
+  | inl t ↦
+      let bytes = (and_parts (not (length s == 0)) (list_all is_token_byte s) t).1 in
+      rw t (bytes_listed s (list_all-weaker is_token_byte (is_bare comma) token_bare s bytes))
+  | inr f ↦ rw f (quoted_listed s valid)
+]
 
 pair_listed : (name s : Line) → list_all (is_bare comma) name ≡ true → IsFieldValue s → IsListed (pair_text name s)
-pair_listed name s bare valid =
-    both_listed name (codes "=" ++ value_text (value_of s)) (bytes_listed name bare)
+pair_listed name s bare valid = both_listed name (codes "=" ++ value_text (value_of s)) (bytes_listed name bare)
     (both_listed (codes "=") (value_text (value_of s)) (bytes_listed (codes "=") refl) (value_listed s valid))
 
 optional_listed : (name : Line) (o : Option Line) → list_all (is_bare comma) name ≡ true
@@ -140,13 +131,11 @@ interface_valid (Some node) valid s e =
     let same : node_text node ≡ s = cc e in subst IsFieldValue same (valid node refl)
 
 element_listed : (arrival : ArrivalParts) → IsTold arrival → IsListed (element_text arrival)
-element_listed arrival told =
-    both_listed (pair_text (codes "for") (node_text arrival.client)) _
+element_listed arrival told = both_listed (pair_text (codes "for") (node_text arrival.client)) _
     (pair_listed (codes "for") (node_text arrival.client) refl told.client)
     (both_listed (optional_pair (codes "by") (option_map node_text arrival.interface)) _
     (optional_listed (codes "by") (option_map node_text arrival.interface) refl
-    (interface_valid arrival.interface told.interface))
-    (both_listed (optional_pair (codes "host") arrival.host) _
+    (interface_valid arrival.interface told.interface)) (both_listed (optional_pair (codes "host") arrival.host) _
     (optional_listed (codes "host") arrival.host refl told.host)
     (optional_listed (codes "proto") (Some (scheme_text arrival.scheme)) refl
     (λ s e. let same : scheme_text arrival.scheme ≡ s = cc e in
@@ -173,17 +162,15 @@ scheme_ends Http = record { front = codes ";proto=htt"; last = 112; is = refl; v
 scheme_ends Https = record { front = codes ";proto=http"; last = 115; is = refl; visible = refl }
 
 behind : (s t : Line) → EndsVisibly t → EndsVisibly (s ++ t)
-behind s t e =
-    record {
-      front = s ++ e.front;
-      last = e.last;
-      is = ap (λ (x : Line). s ++ x) e.is ∙ sym (append_assoc s e.front (e.last ∷ []));
-      visible = e.visible;
-    }
+behind s t e = record {
+  front = s ++ e.front;
+  last = e.last;
+  is = ap (λ (x : Line). s ++ x) e.is ∙ sym (append_assoc s e.front (e.last ∷ []));
+  visible = e.visible;
+}
 
 element_ends : (arrival : ArrivalParts) → EndsVisibly (element_text arrival)
-element_ends arrival =
-    behind (pair_text (codes "for") (node_text arrival.client)) _
+element_ends arrival = behind (pair_text (codes "for") (node_text arrival.client)) _
     (behind (optional_pair (codes "by") (option_map node_text arrival.interface)) _
     (behind (optional_pair (codes "host") arrival.host) _ (scheme_ends arrival.scheme)))
 
@@ -225,11 +212,10 @@ field_members-append (line ∷ lines) others =
 
 kept_well_formed : (keeps : Bool) (received : List Line)
     → list_all is_well_formed (kept_if (keeps && list_all is_well_formed received) received) ≡ true
-kept_well_formed keeps received =
-    elim (cases_Bool (keeps && list_all is_well_formed received)) [
-      | inl t ↦ rw t (and_parts keeps (list_all is_well_formed received) t).1
-      | inr f ↦ rw f refl
-    ]
+kept_well_formed keeps received = elim (cases_Bool (keeps && list_all is_well_formed received)) [
+  | inl t ↦ rw t (and_parts keeps (list_all is_well_formed received) t).1
+  | inr f ↦ rw f refl
+]
 
 pub own_last : ParsesOneWay → JoinKeepsMembers → (forwarding : Forwarding) (arrival : ArrivalParts)
     (received : List Line) → forwarding.writes_forwarded ≡ true → IsTold arrival

@@ -30,8 +30,7 @@ octets_fit (s ∷ segments) fits (suc (suc k)) = octets_fit segments (λ j. fits
 
 pub ipv6_valid : (segments : List ℕ) → AllSegments segments → IsFieldValue (ipv6_text segments)
 unfolding ipv6_text
-ipv6_valid segments fits =
-    cond_both (bytes_eq (take 6 segments) (0 ∷ 0 ∷ 0 ∷ 0 ∷ 0 ∷ 0xffff ∷ []))
+ipv6_valid segments fits = cond_both (bytes_eq (take 6 segments) (0 ∷ 0 ∷ 0 ∷ 0 ∷ 0 ∷ 0xffff ∷ []))
     (codes "::ffff:" ++ ipv4_text (octets_of (drop 6 segments))) (hex_groups_text segments) IsFieldValue
     (λ _. All-append IsValueByte (codes "::ffff:") _ (AllPass-from_test is_value_byte (codes "::ffff:") refl)
     (ipv4_valid (octets_of (drop 6 segments)) (octets_fit (drop 6 segments) (AllSegments-drop 6 segments fits))))

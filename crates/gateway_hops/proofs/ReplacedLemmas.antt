@@ -17,14 +17,13 @@ module _ (test : List ℕ → Bool) (own : List Encodings.Field)
   stays : (fields : List Field)
       → lines_where test (filter (λ field. not (has_field own field.0)) fields) ≡ lines_where test fields
   stays [] = refl
-  stays (field ∷ fields) =
-      elim (cases_Bool (test field.0)) [
-        | inl t ↦ rw (apart field.0 t) (rw t (ap (λ lines. field.1 ∷ lines) (stays fields)))
-        | inr f ↦ elim (cases_Bool (has_field own field.0)) [
-          | inl h ↦ rw h (rw f (stays fields))
-          | inr n ↦ rw n (rw f (stays fields))
-        ]
-      ]
+  stays (field ∷ fields) = elim (cases_Bool (test field.0)) [
+    | inl t ↦ rw (apart field.0 t) (rw t (ap (λ lines. field.1 ∷ lines) (stays fields)))
+    | inr f ↦ elim (cases_Bool (has_field own field.0)) [
+      | inl h ↦ rw h (rw f (stays fields))
+      | inr n ↦ rw n (rw f (stays fields))
+    ]
+  ]
 
 -- a name that doesn't pass has none
 none_with_name : (test : List ℕ → Bool) (name : List ℕ) (lines : List Line) → test name ≡ false
@@ -38,8 +37,7 @@ none_own : (test : List ℕ → Bool) (own : List Encodings.Field)
     → lines_where test (flat_map lines_with_name own) ≡ []
 none_own test [] apart = refl
 none_own test (field ∷ own) apart =
-    let fails : test field.0 ≡ false
-    = elim (cases_Bool (test field.0)) [
+    let fails : test field.0 ≡ false = elim (cases_Bool (test field.0)) [
       | inl t ↦ absurd (cc (
         (or_parts (bytes_eq field.0 field.0) (has_field own field.0) (apart field.0 t)).0,
         (bytes_eq-Decides field.0 field.0).1 refl,
@@ -49,8 +47,7 @@ none_own test (field ∷ own) apart =
     let below : (name : List ℕ) → test name ≡ true → has_field own name ≡ false
     = λ name t. (or_parts (bytes_eq field.0 name) (has_field own name) (apart name t)).1 in
     lines_where-append test (lines_with_name field) (flat_map lines_with_name own)
-    ∙ ap (λ lines. lines ++ lines_where test (flat_map lines_with_name own))
-    (none_with_name test field.0 field.1 fails)
+    ∙ ap (λ lines. lines ++ lines_where test (flat_map lines_with_name own)) (none_with_name test field.0 field.1 fails)
     ∙ none_own test own below
 
 -- so the fields leave what passes as it is
@@ -96,13 +93,11 @@ pub replaced_framing : (own : List Encodings.Field) (fields : List Field) (recip
     → frame_nothing own ≡ true → KnowsPlain recipient
     → framing_by recipient (replaced_by own fields) ≡ framing_by recipient fields
 replaced_framing own fields recipient none k =
-    let lengths : lines_where recipient.is_length (replaced_by own fields) ≡ lines_where recipient.is_length fields
-    = replaced_where recipient.is_length own fields
-    (λ name t. unframed own name none
+    let lengths : lines_where recipient.is_length (replaced_by own fields) ≡ lines_where recipient.is_length fields =
+    replaced_where recipient.is_length own fields (λ name t. unframed own name none
     (ap (λ (n : List ℕ). list_any (bytes_eq n) framing_names) (k.length_names name t))) in
-    let codings : lines_where recipient.is_coding (replaced_by own fields) ≡ lines_where recipient.is_coding fields
-    = replaced_where recipient.is_coding own fields
-    (λ name t. unframed own name none
+    let codings : lines_where recipient.is_coding (replaced_by own fields) ≡ lines_where recipient.is_coding fields =
+    replaced_where recipient.is_coding own fields (λ name t. unframed own name none
     (ap (λ (n : List ℕ). list_any (bytes_eq n) framing_names) (k.coding_names name t))) in
     ap (λ lines. recipient.delimits lines (lines_where recipient.is_coding (replaced_by own fields))) lengths
     ∙ ap (λ lines. recipient.delimits (lines_where recipient.is_length fields) lines) codings

@@ -43,11 +43,10 @@ own_at : (pseudonym : List ℕ) (message : Message) (name : List ℕ) (via host 
     → lines_under (own_fields pseudonym message) name ≡ via ++ (host ++ (date ++ (hops ++ (len ++ coding))))
 own_at pseudonym message name via host date hops len coding ev eh ed em el ec = grind (arith, lines_under-append, join)
 
-own_none : (pseudonym : List ℕ) (message : Message) (name : List ℕ)
-    → bytes_eq (codes "via") name ≡ false → bytes_eq (codes "host") name ≡ false
-    → bytes_eq (codes "date") name ≡ false → bytes_eq (codes "max-forwards") name ≡ false
-    → bytes_eq (codes "content-length") name ≡ false → bytes_eq (codes "transfer-encoding") name ≡ false
-    → lines_under (own_fields pseudonym message) name ≡ []
+own_none : (pseudonym : List ℕ) (message : Message) (name : List ℕ) → bytes_eq (codes "via") name ≡ false
+    → bytes_eq (codes "host") name ≡ false → bytes_eq (codes "date") name ≡ false
+    → bytes_eq (codes "max-forwards") name ≡ false → bytes_eq (codes "content-length") name ≡ false
+    → bytes_eq (codes "transfer-encoding") name ≡ false → lines_under (own_fields pseudonym message) name ≡ []
 own_none pseudonym message name v h d m l c = grind (arith, own_at, via_other, if_other)
 
 own_via : (pseudonym : List ℕ) (message : Message)
@@ -249,8 +248,7 @@ module _ (gateway : Gateway) (message : Message) (m : Entries FieldValue) (uniqu
   differently own name e s = grind (arith, differ, gateway, well_spelt)
 
   sent_misspelt : (name : List ℕ) → is_misspelt gateway name ≡ true → lines_under sent name ≡ []
-  sent_misspelt name s =
-      left_out name (dropped gateway message options name s)
+  sent_misspelt name s = left_out name (dropped gateway message options name s)
       ∙ own_none gateway.pseudonym message name (differently (codes "via") name refl s)
       (differently (codes "host") name refl s) (differently (codes "date") name refl s)
       (differently (codes "max-forwards") name refl s) (differently (codes "content-length") name refl s)
@@ -277,8 +275,7 @@ module _ (gateway : Gateway) (message : Message) (m : Entries FieldValue) (uniqu
           (rw e refl) (never (is_some message.date)) (never (is_some message.hops)))
           ∙ ap (λ lines. lines_at m (codes "host") ++ lines) (own_host gateway.pseudonym message)
           ∙ rw e (append-nil (lines_at m (codes "host")))
-      by (Some line) e =
-          left_out (codes "host") (anew gateway message options (codes "host") (rw e refl))
+      by (Some line) e = left_out (codes "host") (anew gateway message options (codes "host") (rw e refl))
           ∙ own_host gateway.pseudonym message ∙ rw e refl
 
   sent_date : lines_under sent (codes "date") ≡ replaced (option_map fixdate message.date) (lines_at m (codes "date"))
@@ -292,8 +289,7 @@ module _ (gateway : Gateway) (message : Message) (m : Entries FieldValue) (uniqu
           (never (is_some message.host)) (rw e refl) (never (is_some message.hops)))
           ∙ ap (λ lines. lines_at m (codes "date") ++ lines) (own_date gateway.pseudonym message)
           ∙ rw e (append-nil (lines_at m (codes "date")))
-      by (Some n) e =
-          left_out (codes "date")
+      by (Some n) e = left_out (codes "date")
           (anew gateway message options (codes "date") (rw e (rw (never (is_some message.host)) refl)))
           ∙ own_date gateway.pseudonym message ∙ rw e refl
 
@@ -303,14 +299,12 @@ module _ (gateway : Gateway) (message : Message) (m : Entries FieldValue) (uniqu
     where
       by : (o : Option ℕ) → message.hops ≡ o → lines_under sent (codes "max-forwards")
           ≡ replaced (option_map decimal message.hops) (lines_at m (codes "max-forwards"))
-      by None e =
-          kept (codes "max-forwards") (goes gateway message options (codes "max-forwards")
+      by None e = kept (codes "max-forwards") (goes gateway message options (codes "max-forwards")
           (hops_end_to_end further options unprotected consumes) (well_spelt gateway (codes "max-forwards") refl) refl
           (never (is_some message.host)) (never (is_some message.date)) (rw e refl))
           ∙ ap (λ lines. lines_at m (codes "max-forwards") ++ lines) (own_hops gateway.pseudonym message)
           ∙ rw e (append-nil (lines_at m (codes "max-forwards")))
-      by (Some n) e =
-          left_out (codes "max-forwards") (anew gateway message options (codes "max-forwards")
+      by (Some n) e = left_out (codes "max-forwards") (anew gateway message options (codes "max-forwards")
           (rw e (rw (never (is_some message.host), never (is_some message.date)) refl)))
           ∙ own_hops gateway.pseudonym message ∙ rw e refl
 

@@ -185,8 +185,7 @@ unfolding is_reg_name
 name_has_no_colon [] h = refl
 name_has_no_colon (b ∷ s) h =
     let here = and_parts (is_name_byte b || begins_encoded (b ∷ s)) (is_reg_name s) h in
-    let first : before_colon b ≡ true
-    = elim (or_cases (is_name_byte b) (begins_encoded (b ∷ s)) here.0) [
+    let first : before_colon b ≡ true = elim (or_cases (is_name_byte b) (begins_encoded (b ∷ s)) here.0) [
       | inl t ↦ name_before_colon b t
       | inr t ↦ let percent = encoded_percent b s t in rw percent (unfold before_colon in refl)
     ] in

@@ -92,9 +92,8 @@ some_response_outcome gateway response = elim (cases_Bool (response.status == 10
     by same options false e = elim (framed_or_not response.protocol response.fields) [
       | inl r ↦ inl (unframe e r.0 r.1)
       | inr f ↦
-          let states : StatesUnless (states_nothing response.method response.status) response.protocol
-          response.fields f.0
-          = subst (λ (b : Bool). StatesUnless b response.protocol response.fields f.0) (sym e) f.1 in
+          let states : StatesUnless (states_nothing response.method response.status) response.protocol response.fields
+          f.0 = subst (λ (b : Bool). StatesUnless b response.protocol response.fields f.0) (sym e) f.1 in
           accept f.0 (record { states = states; options = options; same_protocol = same })
     ]
 
@@ -105,12 +104,10 @@ pub one_response : (gateway : Gateway) (date : ℕ) (response : Response) (a b :
     → (a.content ≡ b.content) × (a.framing ≡ b.framing)
     × ((name : List ℕ) → lines_under (fields_of a.fields.items) name ≡ lines_under (fields_of b.fields.items) name)
 one_response gateway date response a b p q =
-    let stated : p.stated ≡ q.stated
-    = one_stated _ _ _ _ _ p.accepted.states q.accepted.states in
+    let stated : p.stated ≡ q.stated = one_stated _ _ _ _ _ p.accepted.states q.accepted.states in
     let framing = p.framing ∙ ap (λ (f : Framing). sent_framing response.client f) stated ∙ sym q.framing in
     let fields : Forwards gateway (response_message date response a.framing) response.fields
-    (lines_under (fields_of b.fields.items))
-    = rw (← framing) at q.fields in (
+    (lines_under (fields_of b.fields.items)) = rw (← framing) at q.fields in (
       p.content ∙ ap (λ (f : Framing). content_of response.method response.status f) stated ∙ sym q.content,
       framing,
       sure gateway (response_message date response a.framing) response.fields _ _ p.fields fields,

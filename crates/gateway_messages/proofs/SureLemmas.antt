@@ -28,9 +28,8 @@ module _ (gateway : Gateway) (message : Message) (received f g : LineMap) (a : F
 
   same_end_to_end : is_hop_by_hop gateway.consumes_credentials (connection_options received) name ≡ false
       → is_misspelt gateway name ≡ false → IsSame name
-  same_end_to_end e s =
-      either (codes "via") (a.via ∙ sym b.via) (λ n1. either (codes "host") (a.host ∙ sym b.host) (λ n0.
-      either (codes "date") (a.date ∙ sym b.date) (λ n9.
+  same_end_to_end e s = either (codes "via") (a.via ∙ sym b.via)
+      (λ n1. either (codes "host") (a.host ∙ sym b.host) (λ n0. either (codes "date") (a.date ∙ sym b.date) (λ n9.
       either (codes "max-forwards") (a.max_forwards ∙ sym b.max_forwards) (λ n2.
       either (codes "content-length") (a.content_length ∙ sym b.content_length) (λ n3.
       either (codes "transfer-encoding") (a.transfer_encoding ∙ sym b.transfer_encoding) (λ n4.
@@ -39,8 +38,7 @@ module _ (gateway : Gateway) (message : Message) (received f g : LineMap) (a : F
       a.end_to_end name e s others ∙ sym (b.end_to_end name e s others)))))))
 
   same_hop_by_hop : is_hop_by_hop gateway.consumes_credentials (connection_options received) name ≡ true → IsSame name
-  same_hop_by_hop e =
-      either (codes "transfer-encoding") (a.transfer_encoding ∙ sym b.transfer_encoding) (λ n.
+  same_hop_by_hop e = either (codes "transfer-encoding") (a.transfer_encoding ∙ sym b.transfer_encoding) (λ n.
       let other : name ≢ codes "transfer-encoding" = λ same. n (sym same) in
       a.hop_by_hop name e other ∙ sym (b.hop_by_hop name e other))
 

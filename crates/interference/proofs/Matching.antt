@@ -11,8 +11,7 @@ same_value-refl x = grind (arith, bytes_eq-Decides)
 -- a request that agrees with another takes its place
 agree-first : (vary : List (List ℕ)) (q r s : Request) → agree vary q r ≡ true → agree vary q s ≡ agree vary r s
 agree-first [] q r s same = refl
-agree-first (n ∷ vary) q r s same =
-    grind (arith, same_value-is (q.fields n) (r.fields n), agree-first vary q r s)
+agree-first (n ∷ vary) q r s same = grind (arith, same_value-is (q.fields n) (r.fields n), agree-first vary q r s)
 
 agree-refl : (vary : List (List ℕ)) (q : Request) → agree vary q q ≡ true
 agree-refl [] q = refl

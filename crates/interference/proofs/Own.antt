@@ -84,8 +84,7 @@ module _ (o : Origin) where
   renewable : (given : Dated) (first r : Request) → IsFor o given r
       → is_renewable Right first r given.answer.head ≡ true
       → (may_store first given.answer.head ≡ true) × IsFor o given first
-  renewable given first r is renews =
-      grind (arith, passed_on given r first, matches-sym given.answer.head first r)
+  renewable given first r is renews = grind (arith, passed_on given r first, matches-sym given.answer.head first r)
 
   same_target : (given : Dated) (r : Request) (is : IsFor o given r) → is.0.target ≡ r.target
   same_target given r is = grind arith
@@ -133,10 +132,8 @@ module _ (o : Origin) where
         ]) fine.1.1
     replies_fine whole other fine = tt
 
-    answers_fine : (m : Message) → Fine o w.version w.now m
-        → Fine o w.version w.now (answers o false w m)
-    answers_fine (Going passed asked) sent =
-        reply_fine w.version passed asked false (answered o w asked.request)
+    answers_fine : (m : Message) → Fine o w.version w.now m → Fine o w.version w.now (answers o false w m)
+    answers_fine (Going passed asked) sent = reply_fine w.version passed asked false (answered o w asked.request)
         (le_refl _, inl sent.0, (asked.request, refl, inl refl))
     answers_fine m fine = tt
 

@@ -37,8 +37,7 @@ module _ (watches : ℕ → Bool) (secret : List ℕ → Bool) (origin other : O
 
   -- the requests are alike, and a watcher's are answered the same
   abbrev Twin : Asked → Asked → Type 0
-  Twin a b =
-      (a.client ≡ b.client) × Alike secret a.request b.request
+  Twin a b = (a.client ≡ b.client) × Alike secret a.request b.request
       × (watches a.client ≡ true → (v : ℕ) → origin v a.request ≡ other v b.request)
 
   abbrev IsPublic : Request → Head → Type 0

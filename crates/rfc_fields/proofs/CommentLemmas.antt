@@ -60,16 +60,14 @@ passes (Pair b c) d s h =
     let x = and_parts (is_value_byte b) (is_content c) h in
     behind-within (at d false) (at d true) 92 (b ∷ (content_text c ++ s)) refl
     ∙ behind-within (at d true) (at d false) b (content_text c ++ s) (after-escaped d b x.0) ∙ passes c d s x.1
-passes (Inner i c) d s h =
-    grind (
-      arith,
-      and_parts,
-      behind-within,
-      append_assoc,
-      passes i (suc d) (41 ∷ (content_text c ++ s)) (and_parts
-          (is_content i) (is_content c) h).0,
-      passes c d s (and_parts (is_content i) (is_content c) h).1,
-    )
+passes (Inner i c) d s h = grind (
+  arith,
+  and_parts,
+  behind-within,
+  append_assoc,
+  passes i (suc d) (41 ∷ (content_text c ++ s)) (and_parts (is_content i) (is_content c) h).0,
+  passes c d s (and_parts (is_content i) (is_content c) h).1,
+)
 
 -- what follows a comment is what the scan behind its first parenthesis finds
 pub behind-comment : (text rest : List ℕ) → HasComment text rest → behind (at 0 false) (drop 1 text) ≡ Some rest
@@ -117,8 +115,7 @@ module _ (pre : List ℕ) (f : Content → Content) (text : (c : Content) → co
   grow d s r h = grind (arith, grow_layer)
 
 inner_layer : (d : ℕ) (s t r : List ℕ) → Layer s t → Closes d t r → Closes d (40 ∷ s) r
-inner_layer d s t r l h =
-    rw (append_assoc (content_text l.content) (41 ∷ []) t ∙ sym l.written) at (grow
+inner_layer d s t r l h = rw (append_assoc (content_text l.content) (41 ∷ []) t ∙ sym l.written) at (grow
     (40 ∷ (content_text l.content ++ 41 ∷ [])) (Inner l.content)
     (λ c. ap (λ x. 40 ∷ x) (sym (append_assoc (content_text l.content) (41 ∷ []) (content_text c))))
     (λ c v. ap (λ x. x && is_content c) l.valid ∙ v) d t r h)
@@ -127,19 +124,16 @@ close_layer : (s : List ℕ) → Layer (41 ∷ s) s
 close_layer s = record { content = Nothing; valid = refl; written = refl }
 
 close_case : (d : ℕ) (s r : List ℕ) → ((d : ℕ) (e : Bool) (r : List ℕ) → behind (at d e) s ≡ Some r
-    → ClosesFrom d e s r)
-    → lead (closing d) s (λ m. behind m s) ≡ Some r → Closes d (41 ∷ s) r
+    → ClosesFrom d e s r) → lead (closing d) s (λ m. behind m s) ≡ Some r → Closes d (41 ∷ s) r
 close_case zero s r ih h = subst (λ x. Layer (41 ∷ s) x) (same_Some s r h) (close_layer s)
 close_case (suc d) s r ih h = (s, close_layer s, ih d false r h)
 
 slash_case : (d : ℕ) (s r : List ℕ) → ClosesEscaped d s r → Closes d (92 ∷ s) r
-slash_case d s r h =
-    rw (← h.begins) at (grow (92 ∷ h.octet ∷ []) (Pair h.octet) (λ c. refl)
+slash_case d s r h = rw (← h.begins) at (grow (92 ∷ h.octet ∷ []) (Pair h.octet) (λ c. refl)
     (λ c v. ap (λ x. x && is_content c) h.value ∙ v) d h.next r h.closes)
 
 text_case : (d b : ℕ) (s r : List ℕ) → is_ctext b ≡ true → Closes d s r → Closes d (b ∷ s) r
-text_case d b s r h =
-    grow (b ∷ []) (Text b) (λ c. refl) (λ c v. ap (λ x. x && is_content c) h ∙ v) d s r
+text_case d b s r h = grow (b ∷ []) (Text b) (λ c. refl) (λ c v. ap (λ x. x && is_content c) h ∙ v) d s r
 
 -- the tests of a byte, each with its answer
 module _ (b d : ℕ) (s r : List ℕ) (ih : (d : ℕ) (e : Bool) (r : List ℕ) → behind (at d e) s ≡ Some r
@@ -148,9 +142,7 @@ module _ (b d : ℕ) (s r : List ℕ) (ih : (d : ℕ) (e : Bool) (r : List ℕ) 
   shut_case : (x : Bool) → (b == 92) ≡ false → (b == 40) ≡ false → (b == 41) ≡ x
       → lead (cond x (closing d) (Within (at d false))) s (λ m. behind m s) ≡ Some r → Closes d (b ∷ s) r
   shut_case true n m e h = subst (λ v. Closes d (v ∷ s) r) (sym (eqb-true b 41 e)) (close_case d s r ih h)
-  shut_case false n m e h =
-      text_case d b s r
-      (ap (λ v. v && not (b == 40) && not (b == 41) && not (b == 92)) value
+  shut_case false n m e h = text_case d b s r (ap (λ v. v && not (b == 40) && not (b == 41) && not (b == 92)) value
       ∙ ap (λ v. not v && not (b == 41) && not (b == 92)) m ∙ ap (λ v. not v && not (b == 92)) e ∙ ap not n)
       (ih d false r h)
 
@@ -164,10 +156,8 @@ module _ (b d : ℕ) (s r : List ℕ) (ih : (d : ℕ) (e : Bool) (r : List ℕ) 
 
   plain_case : (x : Bool) → (b == 92) ≡ x
       → lead (cond x (Within (at d true)) (cond (b == 40) (Within (at (suc d) false))
-      (cond (b == 41) (closing d) (Within (at d false)))))
-      s (λ m. behind m s) ≡ Some r → Closes d (b ∷ s) r
-  plain_case true e h =
-      subst (λ v. Closes d (v ∷ s) r) (sym (eqb-true b 92 e)) (slash_case d s r (ih d true r h))
+      (cond (b == 41) (closing d) (Within (at d false))))) s (λ m. behind m s) ≡ Some r → Closes d (b ∷ s) r
+  plain_case true e h = subst (λ v. Closes d (v ∷ s) r) (sym (eqb-true b 92 e)) (slash_case d s r (ih d true r h))
   plain_case false e h = open_case (b == 40) e refl h
 
   any_case : (e : Bool) → lead (after_any d e b) s (λ m. behind m s) ≡ Some r → ClosesFrom d e (b ∷ s) r

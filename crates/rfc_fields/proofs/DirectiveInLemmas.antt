@@ -41,25 +41,23 @@ value_again (TokenText s) h = rw h refl
 value_again (QuotedText s) h = rw (no_token s) (ap (λ (t : List ℕ). QuotedText t) (between s))
   where
     no_token : (t : List ℕ) → is_token (quote ∷ (t ++ quote ∷ [])) ≡ false
-    no_token t =
-        and_right (not (length (quote ∷ (t ++ quote ∷ [])) == 0)) (list_all is_token_byte (quote ∷ (t ++ quote ∷ [])))
-        (rw quote_is_no_token refl)
+    no_token t = and_right (not (length (quote ∷ (t ++ quote ∷ [])) == 0))
+        (list_all is_token_byte (quote ∷ (t ++ quote ∷ []))) (rw quote_is_no_token refl)
 
 argument_again : (a : Option ValueParts) → is_argument a ≡ true → argument_at (argument_text a) ≡ a
 argument_again a h = grind (arith, value_again)
 
 parts_again : (d : DirectiveParts) → is_directive d ≡ true → parts_at (directive_text d) ≡ d
-parts_again d h =
-    grind (
-      arith,
-      and_parts,
-      is_token_byte,
-      name_length,
-      argument_stops,
-      take-append_seam,
-      drop-append_seam,
-      argument_again,
-    )
+parts_again d h = grind (
+  arith,
+  and_parts,
+  is_token_byte,
+  name_length,
+  argument_stops,
+  take-append_seam,
+  drop-append_seam,
+  argument_again,
+)
 
 both_hold : (d : DirectiveParts) (b c : Bool) → b ≡ true → c ≡ true → (if b && c then Some d else None) ≡ Some d
 both_hold d b c e f = rw (e, f) refl
@@ -67,8 +65,7 @@ both_hold d b c e f = rw (e, f) refl
 -- a text is its directive
 pub directive_in-from : (text : List ℕ) (d : DirectiveParts) → IsDirective text d → directive_in text ≡ Some d
 unfolding directive_in
-directive_in-from text d h =
-    subst
+directive_in-from text d h = subst
     (λ (q : DirectiveParts). (if is_directive q && bytes_eq text (directive_text q) then Some q else None) ≡ Some d)
     (sym parts) (both_hold d _ _ h.valid ((bytes_eq-Decides text (directive_text d)).1 h.written))
   where

@@ -16,14 +16,12 @@ argument_ends a = grind arith
 front-len : (name tail : List ℕ) → list_all is_token_byte name ≡ true → prefix_len is_token_byte tail ≡ 0
     → prefix_len is_token_byte (name ++ tail) ≡ length name
 front-len [] tail h k = k
-front-len (b ∷ name) tail h k =
-    grind (
-      arith,
-      and_parts,
-      is_token_byte,
-      front-len name tail (and_parts (is_token_byte b) (list_all is_token_byte
-          name) h).1 k,
-    )
+front-len (b ∷ name) tail h k = grind (
+  arith,
+  and_parts,
+  is_token_byte,
+  front-len name tail (and_parts (is_token_byte b) (list_all is_token_byte name) h).1 k,
+)
 
 name_valid : (d : DirectiveParts) → is_directive d ≡ true → is_token d.name ≡ true
 name_valid d h = (and_parts (is_token d.name) (is_argument d.argument) h).0
@@ -124,8 +122,7 @@ name-is m d h = grind (arith, name-len, take-append_seam)
 pub directive_once : (m : List ℕ) (d e : DirectiveParts) → IsDirective m d → IsDirective m e → d ≡ e
 directive_once m d e h k =
     let name : d.name ≡ e.name = sym (name-is m d h) ∙ name-is m e k in
-    let argument : d.argument ≡ e.argument =
-    argument_once d.argument e.argument (argument_valid d h.valid) (argument_valid e k.valid)
-    (sym (argument-is m d h) ∙ argument-is m e k) in
+    let argument : d.argument ≡ e.argument = argument_once d.argument e.argument (argument_valid d h.valid)
+    (argument_valid e k.valid) (sym (argument-is m d h) ∙ argument-is m e k) in
     let of : List ℕ → Option ValueParts → DirectiveParts = λ n a. record { name = n; argument = a } in
     ap (λ n. of n d.argument) name ∙ ap (of e.name) argument

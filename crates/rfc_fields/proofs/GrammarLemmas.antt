@@ -71,8 +71,7 @@ runs_octets sep q (o ∷ os) h =
 pub runs_part : (sep : ℕ) (q : Bool) (g : IsSeparator sep) (p : Part) → is_part sep q p ≡ true
     → Runs sep q Outside (part_text p) Outside
 runs_part sep q g (Byte b) h = grind (arith, and_parts, is_value_byte, runs_byte, not_true)
-runs_part sep q g (Quoted os) h =
-    runs_append sep q Outside Inside Outside (34 ∷ []) (flat_map octet_text os ++ 34 ∷ [])
+runs_part sep q g (Quoted os) h = runs_append sep q Outside Inside Outside (34 ∷ []) (flat_map octet_text os ++ 34 ∷ [])
     (runs_byte sep q Outside Inside 34 (ap (λ c. c && true) g.quote_not) refl)
     (runs_append sep q Inside Inside Outside (flat_map octet_text os) (34 ∷ []) (runs_octets sep q os h)
     (runs_byte sep q Inside Outside 34 (never_cut sep 34) refl))

@@ -95,27 +95,25 @@ Malforms q st s = (pieces 44 q st s ≡ Malformed ∷ []) ⊎ SplitsMalformed q 
 malforms_cut : (q : Bool) (st : State) (b : ℕ) (s : List ℕ) → is_cut 44 st b ≡ true → closes q st [] ≡ true
     → Malforms q Outside s → Malforms q st (b ∷ s)
 malforms_cut q st b s e o (inl h) = grind (arith, cut_is)
-malforms_cut q st b s e o (inr h) =
-    inr (record {
-      before = b ∷ h.before;
-      rest = h.rest;
-      text = ap (λ x. b ∷ x) h.text;
-      closed = closes_cons q st b h.before (cut_outside 44 q st b refl e) h.closed;
-      malformed = h.malformed;
-    })
+malforms_cut q st b s e o (inr h) = inr (record {
+  before = b ∷ h.before;
+  rest = h.rest;
+  text = ap (λ x. b ∷ x) h.text;
+  closed = closes_cons q st b h.before (cut_outside 44 q st b refl e) h.closed;
+  malformed = h.malformed;
+})
 
 malforms_push : (q : Bool) (st : State) (b : ℕ) (s : List ℕ) → is_cut 44 st b ≡ false
     → Malforms q (state_after q st b) s → Malforms q st (b ∷ s)
 unfolding push closes
 malforms_push q st b s e (inl h) = inl (pieces-push 44 q st _ b s e refl ∙ ap (push b) h)
-malforms_push q st b s e (inr h) =
-    inr (record {
-      before = b ∷ h.before;
-      rest = h.rest;
-      text = ap (λ x. b ∷ x) h.text;
-      closed = h.closed;
-      malformed = h.malformed;
-    })
+malforms_push q st b s e (inr h) = inr (record {
+  before = b ∷ h.before;
+  rest = h.rest;
+  text = ap (λ x. b ∷ x) h.text;
+  closed = h.closed;
+  malformed = h.malformed;
+})
 
 malforms_step : (q : Bool) (st : State) (b : ℕ) (s : List ℕ) (c : Bool) → is_cut 44 st b ≡ c
     → Malforms q (state_after q st b) s → Malforms q st (b ∷ s)
@@ -131,18 +129,17 @@ malforms q st (b ∷ s) h = malforms_step q st b s (is_cut 44 st b) refl (malfor
 ends_malformed : (q : Bool) (s : List ℕ) → Malforms q Outside s → EndsMalformed q s
 unfolding closes
 ends_malformed q s (inl h) = grind (arith, no_members)
-ends_malformed q s (inr h) =
-    record {
-      before = h.before ++ 44 ∷ [];
-      rest = h.rest;
-      text = h.text ∙ sym (append_assoc h.before (44 ∷ []) h.rest);
-      well_formed = closes-join q Outside h.before [] h.closed;
-      malformed = h.malformed;
-      members = ap (members q) h.text ∙ members-join q h.before h.rest h.closed
-          ∙ ap (λ ps. members q h.before ++ members_of ps) h.malformed
-          ∙ ap (λ ms. ms ++ Malformed ∷ []) (sym (members-join q h.before [] h.closed
-          ∙ ap (λ ms. members q h.before ++ ms) (no_members q) ∙ append-nil (members q h.before)));
-    }
+ends_malformed q s (inr h) = record {
+  before = h.before ++ 44 ∷ [];
+  rest = h.rest;
+  text = h.text ∙ sym (append_assoc h.before (44 ∷ []) h.rest);
+  well_formed = closes-join q Outside h.before [] h.closed;
+  malformed = h.malformed;
+  members = ap (members q) h.text ∙ members-join q h.before h.rest h.closed
+      ∙ ap (λ ps. members q h.before ++ members_of ps) h.malformed
+      ∙ ap (λ ms. ms ++ Malformed ∷ []) (sym (members-join q h.before [] h.closed
+      ∙ ap (λ ms. members q h.before ++ ms) (no_members q) ∙ append-nil (members q h.before)));
+}
 
 pub malformed_comes_last : MalformedComesLast
 malformed_comes_last q s h = ends_malformed q s (malforms q Outside s h)

@@ -40,8 +40,7 @@ number_from-none g s = grind (arith, digit_step, number_some, is_ascii_digit, al
 
 -- the loop's fact, carried over an octet and to the end
 pub number_from-next : (g : ℕ) (m r : Option ℕ) (b : ℕ) (left rest : List ℕ) (all : Option ℕ) → left ≡ b ∷ rest
-    → r ≡ with_digit g m b → all ≡ number_from g m left
-    → all ≡ option_and_then (λ n. number_from g (Some n) rest) r
+    → r ≡ with_digit g m b → all ≡ number_from g m left → all ≡ option_and_then (λ n. number_from g (Some n) rest) r
 unfolding number_from
 number_from-next g m r b left rest all e d a = grind (arith, option_and_then)
 

@@ -49,8 +49,7 @@ unfolding closes
 whole_last q st = grind arith
 
 whole_step : (sep : ℕ) (q : Bool) (st : State) (b : ℕ) (s : List ℕ) (c : Bool) → is_cut sep st b ≡ c
-    → (sep == 34) ≡ false
-    → list_all is_whole (pieces sep q (state_after q st b) s) ≡ closes q (state_after q st b) s
+    → (sep == 34) ≡ false → list_all is_whole (pieces sep q (state_after q st b) s) ≡ closes q (state_after q st b) s
     → list_all is_whole (cond c (Whole [] ∷ pieces sep q Outside s) (push b (pieces sep q (state_after q st b) s)))
     ≡ closes q (state_after q st b) s
 whole_step sep q st b s c e g h = grind (arith, cut_outside, whole_push)

@@ -73,10 +73,8 @@ plain_case b s false true e f rec h =
     }
 plain_case b s false false e f rec h = absurd (false_true h)
 
-past_case : (b : ℕ) (s : List ℕ) (v : Bool) → is_value_byte b ≡ v
-    → ((e : Bool) → is_quoted_text e s ≡ true → Split e s)
-    → option_map_or (λ next. is_quoted_text next s) (cond v (Some false) None) false ≡ true
-    → PastBackslash (b ∷ s)
+past_case : (b : ℕ) (s : List ℕ) (v : Bool) → is_value_byte b ≡ v → ((e : Bool) → is_quoted_text e s ≡ true → Split e s)
+    → option_map_or (λ next. is_quoted_text next s) (cond v (Some false) None) false ≡ true → PastBackslash (b ∷ s)
 past_case b s true f rec h = record { octet = b; after = s; value = f; text = refl; rest = rec false h }
 past_case b s false f rec h = absurd (false_true h)
 

@@ -35,25 +35,23 @@ list_text-part sep p e [] = refl
 list_text-part sep p e (f ∷ es) = append_assoc (part_text p) (element_text e) (sep ∷ list_text sep f es)
 
 outside_quote : (sep : ℕ) (p : Bool) (b : ℕ) (s : List ℕ) → b ≡ 34 → EndsQuoted sep p s → IsList sep p (b ∷ s)
-outside_quote sep p b s e r =
-    record {
-      first = Quoted r.octets ∷ r.first;
-      others = r.others;
-      valid = ap (λ v. (v && is_element sep p r.first) && list_all (is_element sep p) r.others) r.valid_octets
-          ∙ r.valid;
-      text = ap (λ x. x ∷ s) e ∙ ap (λ x. 34 ∷ x) r.text ∙ ap (λ x. 34 ∷ x)
-          (sym (append_assoc (flat_map octet_text r.octets) (34 ∷ []) (list_text sep r.first r.others))) ∙ sym
-          (list_text-part _ _ _ _);
-    }
+outside_quote sep p b s e r = record {
+  first = Quoted r.octets ∷ r.first;
+  others = r.others;
+  valid = ap (λ v. (v && is_element sep p r.first) && list_all (is_element sep p) r.others) r.valid_octets
+      ∙ r.valid;
+  text = ap (λ x. x ∷ s) e ∙ ap (λ x. 34 ∷ x) r.text ∙ ap (λ x. 34 ∷ x)
+      (sym (append_assoc (flat_map octet_text r.octets) (34 ∷ []) (list_text sep r.first r.others))) ∙ sym
+      (list_text-part _ _ _ _);
+}
 
 outside_separator : (sep : ℕ) (p : Bool) (b : ℕ) (s : List ℕ) → b ≡ sep → IsList sep p s → IsList sep p (b ∷ s)
-outside_separator sep p b s e r =
-    record {
-      first = [];
-      others = r.first ∷ r.others;
-      valid = r.valid;
-      text = ap (λ x. x ∷ s) e ∙ ap (λ x. sep ∷ x) r.text;
-    }
+outside_separator sep p b s e r = record {
+  first = [];
+  others = r.first ∷ r.others;
+  valid = r.valid;
+  text = ap (λ x. x ∷ s) e ∙ ap (λ x. sep ∷ x) r.text;
+}
 
 outside_byte : (sep : ℕ) (p : Bool) (b : ℕ) (s : List ℕ) → is_value_byte b ≡ true → (b == 34) ≡ false
     → (b == sep) ≡ false → IsList sep p s → IsList sep p (b ∷ s)
@@ -68,28 +66,26 @@ outside_byte sep p b s v q k r =
     }
 
 inside_quote : (sep : ℕ) (p : Bool) (b : ℕ) (s : List ℕ) → b ≡ 34 → IsList sep p s → EndsQuoted sep p (b ∷ s)
-inside_quote sep p b s e r =
-    record {
-      octets = [];
-      first = r.first;
-      others = r.others;
-      valid_octets = refl;
-      valid = r.valid;
-      text = ap (λ x. x ∷ s) e ∙ ap (λ x. 34 ∷ x) r.text;
-    }
+inside_quote sep p b s e r = record {
+  octets = [];
+  first = r.first;
+  others = r.others;
+  valid_octets = refl;
+  valid = r.valid;
+  text = ap (λ x. x ∷ s) e ∙ ap (λ x. 34 ∷ x) r.text;
+}
 
 inside_backslash : (sep : ℕ) (p : Bool) (b : ℕ) (s : List ℕ) → p ≡ true → b ≡ 92 → EndsPair sep p s
     → EndsQuoted sep p (b ∷ s)
-inside_backslash sep p b s pairs e r =
-    record {
-      octets = Pair r.octet ∷ r.ends.octets;
-      first = r.ends.first;
-      others = r.ends.others;
-      valid_octets = ap (λ x. (x && is_value_byte r.octet) && list_all (is_octet p) r.ends.octets) pairs
-          ∙ ap (λ x. x && list_all (is_octet p) r.ends.octets) r.value ∙ r.ends.valid_octets;
-      valid = r.ends.valid;
-      text = ap (λ x. x ∷ s) e ∙ ap (λ x. 92 ∷ x) r.text ∙ ap (λ x. 92 ∷ r.octet ∷ x) r.ends.text;
-    }
+inside_backslash sep p b s pairs e r = record {
+  octets = Pair r.octet ∷ r.ends.octets;
+  first = r.ends.first;
+  others = r.ends.others;
+  valid_octets = ap (λ x. (x && is_value_byte r.octet) && list_all (is_octet p) r.ends.octets) pairs
+      ∙ ap (λ x. x && list_all (is_octet p) r.ends.octets) r.value ∙ r.ends.valid_octets;
+  valid = r.ends.valid;
+  text = ap (λ x. x ∷ s) e ∙ ap (λ x. 92 ∷ x) r.text ∙ ap (λ x. 92 ∷ r.octet ∷ x) r.ends.text;
+}
 
 inside_byte : (sep : ℕ) (p : Bool) (b : ℕ) (s : List ℕ) → is_value_byte b ≡ true → (b == 34) ≡ false
     → (p && b == 92) ≡ false → EndsQuoted sep p s → EndsQuoted sep p (b ∷ s)

@@ -17,8 +17,7 @@ end_from-step sep q st i s h = grind (arith, drop-cons, add-one)
 -- the loop's fact, carried over a byte and to the end
 pub end_from-next : (sep : ℕ) (q : Bool) (st st' : State) (i : ℕ) (s : List ℕ) (all : End) → i < length s
     → is_cut sep st (get_or s i 0) ≡ false → st' ≡ state_after q st (get_or s i 0)
-    → all ≡ end_from sep q st i (drop i s)
-    → all ≡ end_from sep q st' (i + 1) (drop (i + 1) s)
+    → all ≡ end_from sep q st i (drop i s) → all ≡ end_from sep q st' (i + 1) (drop (i + 1) s)
 end_from-next sep q st st' i s all h e n a = grind (arith, end_from-step)
 
 pub end_from-here : (sep : ℕ) (q : Bool) (st : State) (i : ℕ) (s : List ℕ) (all : End) → i < length s
@@ -66,13 +65,12 @@ finds_later : (sep : ℕ) (q : Bool) (st : State) (i b : ℕ) (s : List ℕ) (r 
 unfolding push
 finds_later sep q st i b s Closed e h = pieces-push sep q st (state_after q st b) b s e refl ∙ ap (push b) h
 finds_later sep q st i b s Open e h = pieces-push sep q st (state_after q st b) b s e refl ∙ ap (push b) h
-finds_later sep q st i b s (Cut n) e h =
-    record {
-      k = suc h.k;
-      at = omega (arith, h.at);
-      within = omega (arith, h.within);
-      split = pieces-push sep q st (state_after q st b) b s e refl ∙ ap (push b) h.split;
-    }
+finds_later sep q st i b s (Cut n) e h = record {
+  k = suc h.k;
+  at = omega (arith, h.at);
+  within = omega (arith, h.within);
+  split = pieces-push sep q st (state_after q st b) b s e refl ∙ ap (push b) h.split;
+}
 
 finds_step : (sep : ℕ) (q : Bool) (st : State) (i b : ℕ) (s : List ℕ) (c : Bool) → is_cut sep st b ≡ c
     → Finds sep q (state_after q st b) (i + 1) s (end_from sep q (state_after q st b) (i + 1) s)
@@ -105,8 +103,7 @@ skipped sep q i (suc k) (b ∷ s) l h =
 pub end_at : (sep : ℕ) (q : Bool) (s : List ℕ) (place : ℕ) (r : End) → IsFirstByte (is_byte2 34 sep) s (Some place)
     → r ≡ end_from sep q Outside place (drop place s) → FindsEnd sep q s r
 end_at sep q s place r h e =
-    let same : end_from sep q Outside 0 s ≡ r =
-    skipped sep q 0 place s (omega (arith, h.0.high)) h.0.before
+    let same : end_from sep q Outside 0 s ≡ r = skipped sep q 0 place s (omega (arith, h.0.high)) h.0.before
     ∙ ap (λ n. end_from sep q Outside n (drop place s)) (omega arith) ∙ sym e in
     from_finds sep q s r (subst (Finds sep q Outside 0 s) same (finds sep q Outside 0 s))
 
@@ -114,7 +111,6 @@ end_at sep q s place r h e =
 pub end_nowhere : (sep : ℕ) (q : Bool) (s : List ℕ) → IsFirstByte (is_byte2 34 sep) s None → FindsEnd sep q s Closed
 unfolding end_from
 end_nowhere sep q s h =
-    let same : end_from sep q Outside 0 s ≡ Closed =
-    skipped sep q 0 (length s) s (omega arith) h
+    let same : end_from sep q Outside 0 s ≡ Closed = skipped sep q 0 (length s) s (omega arith) h
     ∙ ap (end_from sep q Outside (0 + length s)) (drop_all (length s) s (omega arith)) in
     from_finds sep q s Closed (subst (Finds sep q Outside 0 s) same (finds sep q Outside 0 s))

@@ -5,8 +5,7 @@ use Rattle.std.{proofs.lemmas.{List.take_all, Bool.{eqb-true, false_from_ne_true
 use Rattle.rfc_fields.specs.Values.{escape_after, is_quoted_text, octets_from, octets_after}
 use Rattle.rfc_fields.proofs.GrammarLemmas.{false_true}
 
-quoted-step : (e : Bool) (i : ℕ) (s : List ℕ) → i < length s
-    → is_quoted_text e (drop i s)
+quoted-step : (e : Bool) (i : ℕ) (s : List ℕ) → i < length s → is_quoted_text e (drop i s)
     ≡ option_map_or (λ next. is_quoted_text next (drop (i + 1) s)) (escape_after e (get_or s i 0)) false
 unfolding is_quoted_text
 quoted-step e i s h = grind (arith, drop-cons, option_map_or, add-one)

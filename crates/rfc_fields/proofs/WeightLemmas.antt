@@ -35,5 +35,4 @@ scaled g k scale (b ∷ s) l h e f = by (all_ascii_digits (b ∷ s)) refl
         let place : scale ≡ 10 ^ (3 - length (b ∷ s)) = f ∙ ap (λ n. 10 ^ (3 - n)) (sym l) in
         ap (λ n. Some (n * scale)) least ∙ ap (λ p. Some (decimal_value (b ∷ s) * p)) place
         ∙ sym (ap (λ v. cond (v && true) (Some (decimal_value (b ∷ s) * 10 ^ (3 - length (b ∷ s)))) None) short)
-    by false d =
-        sym (ap (λ v. cond (v && false) (Some (decimal_value (b ∷ s) * 10 ^ (3 - length (b ∷ s)))) None) short)
+    by false d = sym (ap (λ v. cond (v && false) (Some (decimal_value (b ∷ s) * 10 ^ (3 - length (b ∷ s)))) None) short)

@@ -45,24 +45,23 @@ strip_last q st (x ∷ s) b h e = strip_last q (state_after q st x) s b h e
 trailing : (q : Bool) (st : State) (s : List ℕ) (n : ℕ) → n ≤ length s → closes q st (take n s) ≡ true
     → closes q st (take (n - suffix_len is_blank (take n s)) s) ≡ true
 trailing q st s zero h e = grind (arith)
-trailing q st s (suc m) h e =
-    elim (cases_Bool (is_blank (get_or s m 0))) [
-      | inl blank ↦
-          let len : suffix_len is_blank (take (suc m) s) ≡ 1 + suffix_len is_blank (take m s) =
-          suffix_len-take_yes is_blank s (suc m) 0 (omega arith) h (ap (λ k. is_blank (get_or s k 0)) (omega arith)
-          ∙ blank)
-          ∙ ap (λ k. 1 + suffix_len is_blank (take k s)) (omega arith) in
-          let front : closes q st (take m s) ≡ true =
-          strip_last q st (take m s) (get_or s m 0) blank (sym (ap (closes q st) (take-suc s m 0 (omega arith))) ∙ e) in
-          let same : m - suffix_len is_blank (take m s) ≡ suc m - suffix_len is_blank (take (suc m) s) = omega arith in
-          subst (λ (k : ℕ). closes q st (take k s) ≡ true) same (trailing q st s m (omega arith) front)
-      | inr other ↦
-          let len : suffix_len is_blank (take (suc m) s) ≡ 0 =
-          suffix_len-take_no is_blank s (suc m) 0 (omega arith) h (ap (λ k. is_blank (get_or s k 0)) (omega arith)
-          ∙ other) in
-          let same : suc m ≡ suc m - suffix_len is_blank (take (suc m) s) = omega arith in
-          subst (λ (k : ℕ). closes q st (take k s) ≡ true) same e
-    ]
+trailing q st s (suc m) h e = elim (cases_Bool (is_blank (get_or s m 0))) [
+  | inl blank ↦
+      let len : suffix_len is_blank (take (suc m) s) ≡ 1 + suffix_len is_blank (take m s) =
+      suffix_len-take_yes is_blank s (suc m) 0 (omega arith) h (ap (λ k. is_blank (get_or s k 0)) (omega arith)
+      ∙ blank)
+      ∙ ap (λ k. 1 + suffix_len is_blank (take k s)) (omega arith) in
+      let front : closes q st (take m s) ≡ true =
+      strip_last q st (take m s) (get_or s m 0) blank (sym (ap (closes q st) (take-suc s m 0 (omega arith))) ∙ e) in
+      let same : m - suffix_len is_blank (take m s) ≡ suc m - suffix_len is_blank (take (suc m) s) = omega arith in
+      subst (λ (k : ℕ). closes q st (take k s) ≡ true) same (trailing q st s m (omega arith) front)
+  | inr other ↦
+      let len : suffix_len is_blank (take (suc m) s) ≡ 0 =
+      suffix_len-take_no is_blank s (suc m) 0 (omega arith) h (ap (λ k. is_blank (get_or s k 0)) (omega arith)
+      ∙ other) in
+      let same : suc m ≡ suc m - suffix_len is_blank (take (suc m) s) = omega arith in
+      subst (λ (k : ℕ). closes q st (take k s) ≡ true) same e
+]
 
 -- a well formed text is well formed without the blanks about it
 pub trim_closes : (q : Bool) (s : List ℕ) → closes q Outside s ≡ true → closes q Outside (trim s) ≡ true

@@ -30,6 +30,5 @@ module _ (known : Known) (text : List ℕ) (all : Option (List ℕ)) (last new r
 
   pub last_value : cut semicolon text ≡ None → shown new ≡ value_of known text → shown r ≡ all
   unfolding last_in
-  last_value e n =
-      ap shown is ∙ shown-or new last ∙ ap (λ v. option_or v (shown last)) n
+  last_value e n = ap shown is ∙ shown-or new last ∙ ap (λ v. option_or v (shown last)) n
       ∙ sym (a ∙ ap (λ texts. option_or (last_in known texts) (shown last)) (last_piece (is_at semicolon) text e))

@@ -7,8 +7,7 @@ pub next_token : (text first others : List ℕ) (all found : Found) → cut_toke
     → all ≡ with_tokens found (slice_split is_delimiter text)
     → all ≡ with_tokens (with_token found first) (slice_split is_delimiter others)
 unfolding with_tokens
-next_token text first others all found e a =
-    a ∙ ap (with_tokens found) (next_piece is_delimiter text first others e)
+next_token text first others all found e a = a ∙ ap (with_tokens found) (next_piece is_delimiter text first others e)
 
 pub last_token : (text : List ℕ) (all found : Found) → cut_token text ≡ None
     → all ≡ with_tokens found (slice_split is_delimiter text) → all ≡ with_token found text

@@ -39,15 +39,13 @@ module _ (names : List (Bor (List ℕ))) where
     module _ (name : Bor (List ℕ)) (e : pair_name member ≡ Some (text_of name)) where
       pub known_pair : is_new (map text_of names) (text_of name) ≡ false → Left ≡ false
       unfolding are_pairs
-      known_pair n =
-          ap (λ found. option_map_or goes_on found false) e
+      known_pair n = ap (λ found. option_map_or goes_on found false) e
           ∙ ap (λ k. k && are_pairs (map text_of names ++ text_of name ∷ []) members) n
 
       pub new_pair : (more : List (Bor (List ℕ))) → is_new (map text_of names) (text_of name) ≡ true
           → more ≡ names ++ name ∷ [] → Left ≡ are_pairs (map text_of more) members
       unfolding are_pairs
-      new_pair more n m =
-          ap (λ found. option_map_or goes_on found false) e
+      new_pair more n m = ap (λ found. option_map_or goes_on found false) e
           ∙ ap (λ k. k && are_pairs (map text_of names ++ text_of name ∷ []) members) n
           ∙ ap (λ t. are_pairs t members) (sym (ap (map text_of) m ∙ map-append text_of names (name ∷ [])))
 
@@ -57,8 +55,7 @@ no_pairs_left names members e = ap (are_pairs names) e
 
 first_member : (first : List ℕ) (others : List Member) (k : Bool) → (length (trim first) == 0) ≡ k
     → members_of (Whole first ∷ others) ≡ cond k (members_of others) (Whole (trim first) ∷ members_of others)
-first_member first others true e =
-    ap (λ j. cond (not j) (Whole (trim first) ∷ members_of others) (members_of others)) e
+first_member first others true e = ap (λ j. cond (not j) (Whole (trim first) ∷ members_of others) (members_of others)) e
 first_member first others false e =
     ap (λ j. cond (not j) (Whole (trim first) ∷ members_of others) (members_of others)) e
 
@@ -73,8 +70,7 @@ module _ (element value : List ℕ) (parameters : List Member) (h : HasParameter
     (given : List (List ℕ)) (none : given ≡ []) (new : Bool) (names : List (List ℕ))
     (e : are_pairs given (with_first value parameters) ≡ (new && are_pairs names parameters)) where
   first_found : is_hop element ≡ (new && are_pairs names parameters)
-  first_found =
-      hop_by_parts element value parameters h
+  first_found = hop_by_parts element value parameters h
       ∙ ap (λ (found : List (List ℕ)). are_pairs found (with_first value parameters)) (sym none) ∙ e
 
   pub not_first : new ≡ false → false ≡ is_hop element

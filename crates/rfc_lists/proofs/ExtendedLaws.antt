@@ -30,8 +30,7 @@ goes_on text due = option_map_or (λ next. are_value_chars next text) due false
 
 plain_on : (b : ℕ) (text : List ℕ) → is_attr_char b ≡ true → are_value_chars 0 (b ∷ text) ≡ are_value_chars 0 text
 unfolding are_value_chars
-plain_on b text h =
-    ap (λ k. goes_on text (cond k (Some 2) (cond (is_attr_char b) (Some 0) None))) (no_percent b h)
+plain_on b text h = ap (λ k. goes_on text (cond k (Some 2) (cond (is_attr_char b) (Some 0) None))) (no_percent b h)
     ∙ ap (λ k. goes_on text (cond k (Some 0) None)) h
 
 encoded_on : (high low : ℕ) (text : List ℕ) → is_ascii_hexdigit high ≡ true → is_ascii_hexdigit low ≡ true
@@ -81,8 +80,7 @@ encoded_case : (b high low : ℕ) (text : List ℕ) → b ≡ 37 → is_ascii_he
 encoded_case b high low text e h l r = record {
   chars = Encoded high low ∷ r.chars;
   are = record {
-    valid =
-        ap (λ x. (x && is_ascii_hexdigit low) && list_all is_value_char r.chars) h
+    valid = ap (λ x. (x && is_ascii_hexdigit low) && list_all is_value_char r.chars) h
         ∙ ap (λ x. x && list_all is_value_char r.chars) l ∙ r.are.valid;
     written = ap (λ x. x ∷ high ∷ low ∷ text) e ∙ ap (λ t. 37 ∷ high ∷ low ∷ t) r.are.written;
   };
@@ -108,8 +106,7 @@ second_case b high low text false l e h a rec = absurd (false_true a)
 digits_case : (b high low : ℕ) (text : List ℕ) (k : Bool) → is_ascii_hexdigit high ≡ k → b ≡ 37
     → goes_on (low ∷ text) (cond k (Some 1) None) ≡ true → Rest text → Chars (b ∷ high ∷ low ∷ text)
 unfolding are_value_chars
-digits_case b high low text true h e a rec =
-    second_case b high low text (is_ascii_hexdigit low) refl e h a rec
+digits_case b high low text true h e a rec = second_case b high low text (is_ascii_hexdigit low) refl e h a rec
 digits_case b high low text false h e a rec = absurd (false_true a)
 
 -- one digit where two are due
@@ -133,8 +130,7 @@ chars_of [] h = none
 chars_of (b ∷ []) h = first_case b [] (b == 37) refl h (λ d. none) (λ e d. absurd (false_true d))
 chars_of (b ∷ c ∷ []) h =
     first_case b (c ∷ []) (b == 37) refl h (chars_of (c ∷ [])) (λ e d. absurd (lone_digit (is_ascii_hexdigit c) d))
-chars_of (b ∷ high ∷ low ∷ text) h =
-    first_case b (high ∷ low ∷ text) (b == 37) refl h (chars_of (high ∷ low ∷ text))
+chars_of (b ∷ high ∷ low ∷ text) h = first_case b (high ∷ low ∷ text) (b == 37) refl h (chars_of (high ∷ low ∷ text))
     (λ e d. digits_case b high low text (is_ascii_hexdigit high) refl e d (chars_of text))
 
 pub value_chars_are_such : ValueCharsAreSuch
@@ -167,14 +163,12 @@ char_written b false = refl
 
 written : (text : List ℕ) → flat_map encoded text ≡ flat_map char_text (map char_for text)
 written [] = refl
-written (b ∷ text) =
-    ap (λ t. t ++ flat_map encoded text) (char_written b (is_attr_char b))
+written (b ∷ text) = ap (λ t. t ++ flat_map encoded text) (char_written b (is_attr_char b))
     ∙ ap (λ t. char_text (char_for b) ++ t) (written text)
 
 valid_char : (b : ℕ) (k : Bool) → is_attr_char b ≡ k → is_value_char (char_if b k) ≡ true
 valid_char b true e = e
-valid_char b false e =
-    ap (λ x. x && is_ascii_hexdigit (low_of b)) (hex_glyph (b / 16 % 16) (omega arith))
+valid_char b false e = ap (λ x. x && is_ascii_hexdigit (low_of b)) (hex_glyph (b / 16 % 16) (omega arith))
     ∙ hex_glyph (b % 16) (omega arith)
 
 all_valid : (text : List ℕ) → list_all is_value_char (map char_for text) ≡ true

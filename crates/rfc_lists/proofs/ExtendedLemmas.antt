@@ -13,9 +13,8 @@ unfolding are_value_chars
 step due i s h = let front : drop i s ≡ get_or s i 0 ∷ drop (i + 1) s = grind (arith, drop-cons, add-one) in
     ap (are_value_chars due) front
 
-pub chars-next : (due i : ℕ) (s : List ℕ) (all : Bool) (r : Option ℕ) → i < length s
-    → r ≡ due_after due (get_or s i 0) → all ≡ are_value_chars due (drop i s)
-    → all ≡ option_map_or (λ next. are_value_chars next (drop (i + 1) s)) r false
+pub chars-next : (due i : ℕ) (s : List ℕ) (all : Bool) (r : Option ℕ) → i < length s → r ≡ due_after due (get_or s i 0)
+    → all ≡ are_value_chars due (drop i s) → all ≡ option_map_or (λ next. are_value_chars next (drop (i + 1) s)) r false
 chars-next due i s all r h n a = grind (arith, step, option_map_or)
 
 pub chars-end : (due i : ℕ) (s : List ℕ) (all : Bool) → length s ≤ i
@@ -40,7 +39,6 @@ module _ (text first others : List ℕ) (e : cut hyphen text ≡ Some (first, ot
   pub subtags-wrong : (all : Bool) → is_subtag first ≡ false → all ≡ are_subtags text → false ≡ all
   subtags-wrong all h a = sym (a ∙ subtags ∙ ap (λ b. b && are_subtags others) h)
 
-pub subtags-last : (text : List ℕ) (all : Bool) → cut hyphen text ≡ None → all ≡ are_subtags text
-    → is_subtag text ≡ all
+pub subtags-last : (text : List ℕ) (all : Bool) → cut hyphen text ≡ None → all ≡ are_subtags text → is_subtag text ≡ all
 subtags-last text all e a =
     let last = ap (list_all is_subtag) (last_piece (is_at hyphen) text e) in grind (arith, cases_Bool)

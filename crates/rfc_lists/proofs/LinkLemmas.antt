@@ -28,10 +28,8 @@ module _ (place : Place) (i : ℕ) (s : List ℕ) where
   at_end all h a = a ∙ ap (λ (t : List ℕ). i + link_len place t) (drop_all i s (omega (arith, h))) ∙ omega arith
 
 abbrev cut_from : Place → List ℕ → Option (List ℕ × List ℕ)
-cut_from place text =
-    if nat_lt (link_len place text) (length text) then
-    Some (take (link_len place text) text, drop (link_len place text + 1) text)
-    else None
+cut_from place text = if nat_lt (link_len place text) (length text) then Some
+    (take (link_len place text) text, drop (link_len place text + 1) text) else None
 
 from_cut : (place : Place) (text : List ℕ) → links_from place text
     ≡ option_map_or (λ (sides : List ℕ × List ℕ). sides.0 ∷ links_from Outside sides.1) (cut_from place text)

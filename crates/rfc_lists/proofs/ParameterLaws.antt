@@ -21,8 +21,7 @@ octet_written b false = refl
 
 written : (text : List ℕ) → flat_map quoted_octet text ≡ flat_map octet_text (map octet_for text)
 written [] = refl
-written (b ∷ text) =
-    ap (λ t. t ++ flat_map quoted_octet text) (octet_written b (b == quote || b == backslash))
+written (b ∷ text) = ap (λ t. t ++ flat_map quoted_octet text) (octet_written b (b == quote || b == backslash))
     ∙ ap (λ t. octet_text (octet_for b) ++ t) (written text)
 
 valid_octet : (b : ℕ) → is_value_byte b ≡ true → (j k : Bool) → (b == quote) ≡ j → (b == backslash) ≡ k
@@ -33,8 +32,7 @@ valid_octet b h false false e f =
     ap (λ x. x && not (b == quote) && not (b == backslash)) h ∙ ap (λ x. not x && not (b == backslash)) e
     ∙ ap not f
 
-all_valid : (text : List ℕ) → list_all is_value_byte text ≡ true
-    → list_all (is_octet true) (map octet_for text) ≡ true
+all_valid : (text : List ℕ) → list_all is_value_byte text ≡ true → list_all (is_octet true) (map octet_for text) ≡ true
 all_valid [] h = refl
 all_valid (b ∷ text) h =
     let x = and_parts (is_value_byte b) (list_all is_value_byte text) h in
@@ -48,8 +46,7 @@ octet_means b false = refl
 
 all_mean : (text : List ℕ) → map octet_value (map octet_for text) ≡ text
 all_mean [] = refl
-all_mean (b ∷ text) =
-    ap (λ o. o ∷ map octet_value (map octet_for text)) (octet_means b (b == quote || b == backslash))
+all_mean (b ∷ text) = ap (λ o. o ∷ map octet_value (map octet_for text)) (octet_means b (b == quote || b == backslash))
     ∙ ap (λ t. b ∷ t) (all_mean text)
 
 module _ (law : QuotedTextsParse) (kind : ParameterKind) (name text : List ℕ) (n : is_token name ≡ true)
@@ -58,8 +55,7 @@ module _ (law : QuotedTextsParse) (kind : ParameterKind) (name text : List ℕ) 
   ReadsBack = (d : DirectiveParts) × IsDirective (parameter_text kind name text) d × Means name text d
 
   is_written : parameter_text kind name text ≡ name ++ equals ∷ value_text (is_quoted kind name) text
-  is_written =
-      ap (λ k. cond k (name ++ star ∷ equals ∷ extended_value text)
+  is_written = ap (λ k. cond k (name ++ star ∷ equals ∷ extended_value text)
       (name ++ equals ∷ value_text (is_quoted kind name) text)) plain
 
   quoted : value_text (is_quoted kind name) text ≡ quoted_string text → ReadsBack
@@ -67,8 +63,7 @@ module _ (law : QuotedTextsParse) (kind : ParameterKind) (name text : List ℕ) 
       let parse = law (map octet_for text) (all_valid text bytes) in
       let inside = flat_map quoted_octet text in
       let valid : is_quoted_text false inside ≡ true = ap (is_quoted_text false) (written text) ∙ parse.0 in
-      let means : octets_from false inside ≡ text =
-      ap (octets_from false) (written text) ∙ parse.1 ∙ all_mean text in (
+      let means : octets_from false inside ≡ text = ap (octets_from false) (written text) ∙ parse.1 ∙ all_mean text in (
         record { name = name; argument = Some (QuotedText inside) },
         record {
           valid = ap (λ x. x && is_quoted_text false inside) n ∙ valid;

@@ -14,8 +14,7 @@ cut_by p text = option_map (λ k. (take k text, drop (k + 1) text)) (position p 
 
 module _ (p : ℕ → Bool) (text : List ℕ) where
   abbrev Cuts : Type 0
-  Cuts =
-      slice_split p text
+  Cuts = slice_split p text
       ≡ option_map_or (λ (sides : List ℕ × List ℕ). sides.0 ∷ slice_split p sides.1) (cut_by p text) (text ∷ [])
 
   inside : position_or_len p text < length text → Cuts
@@ -27,8 +26,7 @@ module _ (p : ℕ → Bool) (text : List ℕ) where
       grind (arith, cases_Bool)
 
   all_cuts : Cuts
-  all_cuts =
-      elim (cases_lt (position_or_len p text) (length text)) [ inl h ↦ inside h | inr h ↦ outside h ]
+  all_cuts = elim (cases_lt (position_or_len p text) (length text)) [ inl h ↦ inside h | inr h ↦ outside h ]
 
   pub next_piece : (first others : List ℕ) → cut_by p text ≡ Some (first, others)
       → slice_split p text ≡ first ∷ slice_split p others

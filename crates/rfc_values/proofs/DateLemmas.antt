@@ -63,33 +63,26 @@ pub date_time_complete : (now : ℕ) (text : List ℕ) (d : DateTime) → IsDate
 date_time_complete now text d valid (named, is_day, shown) = by shown
   where
     by : ShowsNamed now named text d → date_time now text ≡ Some d
-    by (inl e) =
-        named_complete now named text _ d is_day valid (e ∙ imf_fixdate_grouped named d)
+    by (inl e) = named_complete now named text _ d is_day valid (e ∙ imf_fixdate_grouped named d)
         (read_imf now named d is_day valid)
-    by (inr (inl e)) =
-        named_complete now named text _ d is_day valid (e.0 ∙ rfc850_date_grouped named d)
+    by (inr (inl e)) = named_complete now named text _ d is_day valid (e.0 ∙ rfc850_date_grouped named d)
         (read_rfc850 now named d is_day valid e.1)
     by (inr (inr (inl e))) =
         let fits = Fits_valid d valid in
         named_complete now named text _ d is_day valid (e ∙ asctime_date_grouped named (two_digits d.day) d)
-        (read_asctime now named d is_day valid (two_digits d.day)
-        (λ rest. read_padded_day_digits d.day rest fits.day))
-    by (inr (inr (inr e))) =
-        named_complete now named text _ d is_day valid
+        (read_asctime now named d is_day valid (two_digits d.day) (λ rest. read_padded_day_digits d.day rest fits.day))
+    by (inr (inr (inr e))) = named_complete now named text _ d is_day valid
         (e.0 ∙ asctime_date_grouped named (32 ∷ (48 + d.day) ∷ []) d)
-        (read_asctime now named d is_day valid (32 ∷ (48 + d.day) ∷ [])
-        (λ rest. read_padded_day_space d.day rest e.1))
+        (read_asctime now named d is_day valid (32 ∷ (48 + d.day) ∷ []) (λ rest. read_padded_day_space d.day rest e.1))
 
 -- what parses where the rest begins with a space or not, and where it begins with a comma or not
 abbrev read_with_space : ℕ → ℕ → List ℕ → Bool → Option DateTime
-read_with_space now named rest space =
-    cond space (read_asctime_date rest)
+read_with_space now named rest space = cond space (read_asctime_date rest)
     (option_and_then (λ short. in_near_century now short 81 19)
     (option_and_then read_rfc850_date (read_tag (day_name_rest named) rest)))
 
 abbrev read_with_comma : ℕ → ℕ → List ℕ → Bool → Bool → Option DateTime
-read_with_comma now named rest comma space =
-    cond comma (read_imf_fixdate rest) (read_with_space now named rest space)
+read_with_comma now named rest comma space = cond comma (read_imf_fixdate rest) (read_with_space now named rest space)
 
 module _ (now named : ℕ) (text rest : List ℕ) (d : DateTime) (led : text ≡ day_name named ++ rest) where
   whole : (shown : List ℕ) → rest ≡ shown → text ≡ day_name named ++ shown
@@ -119,9 +112,8 @@ form_sound now named text rest d led e = by_comma now named text rest d led _ _ 
 pub date_time_sound : (now : ℕ) (text : List ℕ) (d : DateTime) → date_time now text ≡ Some d
     → IsDateTime d × ShowsDate now text d
 unfolding date_time
-date_time_sound now text d e =
-    and_then_some _ (read_name day_name 7 text) _ e λ named read e₁.
-    and_then_some _ (read_form now named.0 named.1) _ e₁ λ found formed e₂.
+date_time_sound now text d e = and_then_some _ (read_name day_name 7 text) _ e λ named read e₁. and_then_some _
+    (read_form now named.0 named.1) _ e₁ λ found formed e₂.
     let (test, same) = cond_some _ found d e₂ in
     let (is_day, led) = read_name_sound day_name 7 text named.1 named.0 read in
     subst (λ x. IsDateTime x × ShowsDate now text x) same

@@ -64,8 +64,7 @@ rest-shrinks : (n : ℕ) (key : List ℕ) (reading : Reading) (o : Option (List 
       next = next;
     }) (next_members (after_run Blank rest))) o)
 rest-shrinks n key reading None h = shrinks-none n
-rest-shrinks n key reading (Some rest) h =
-    last-shrinks n _ (next_members (after_run Blank rest))
+rest-shrinks n key reading (Some rest) h = last-shrinks n _ (next_members (after_run Blank rest))
     (λ t e. omega (arith, next-within (after_run Blank rest) t e, run-shorter Blank rest, h rest refl))
 
 value-shrinks : (n : ℕ) (key : List ℕ) (o : Option Reading) → ReadsWithin n o
@@ -74,8 +73,7 @@ value-shrinks : (n : ℕ) (key : List ℕ) (o : Option Reading) → ReadsWithin 
       next = next;
     }) (next_members (after_run Blank rest))) (after_parameters reading.rest)) o)
 value-shrinks n key None h = shrinks-none n
-value-shrinks n key (Some reading) h =
-    rest-shrinks n key reading (after_parameters reading.rest)
+value-shrinks n key (Some reading) h = rest-shrinks n key reading (after_parameters reading.rest)
     (λ r e. omega (arith, parameters-within reading.rest r e, h reading refl))
 
 entry_by-shrinks : (text behind : List ℕ) → ShrinksTo (length behind) (entry_by text behind)
@@ -95,12 +93,10 @@ next-smaller : (text : List ℕ) (one : Entry) (o : Option (List ℕ)) → entry
     → length_of o < length_of (Some text)
 next-smaller text one o e f = grind (arith, entry-shorter)
 
-pub entry-smaller : (text : List ℕ) (one : Entry) → entry text ≡ Some one
-    → length_of one.next < length_of (Some text)
+pub entry-smaller : (text : List ℕ) (one : Entry) → entry text ≡ Some one → length_of one.next < length_of (Some text)
 entry-smaller text one e = next-smaller text one one.next e refl
 
-within-suc : (n : ℕ) (text : List ℕ)
-    → members_within (suc n) (Some text)
+within-suc : (n : ℕ) (text : List ℕ) → members_within (suc n) (Some text)
     ≡ option_and_then (λ one. option_map (λ others. one.member ∷ others) (members_within n one.next)) (entry text)
 unfolding members_within
 within-suc n text = refl
@@ -120,8 +116,7 @@ stable : (n m : ℕ) (text : Option (List ℕ)) → length_of text < n → lengt
 stable zero m text a b = absurd (omega (arith, a))
 stable (suc n) zero text a b = absurd (omega (arith, b))
 stable (suc n) (suc m) None a b = within-end n ∙ sym (within-end m)
-stable (suc n) (suc m) (Some text) a b =
-    within-suc n text
+stable (suc n) (suc m) (Some text) a b = within-suc n text
     ∙ entry-same (entry text) n m (λ one e. stable n m one.next (omega (arith, entry-smaller text one e, a))
     (omega (arith, entry-smaller text one e, b)))
     ∙ sym (within-suc m text)

@@ -17,13 +17,11 @@ gmt = 32 ∷ 71 ∷ 77 ∷ 84 ∷ []
 
 -- each form after the name of the day, grouped as it is read
 abbrev pub imf_rest : DateTime → List ℕ
-imf_rest d =
-    44 ∷ 32 ∷ (two_digits d.day ++ 32 ∷ (month_name d.month ++ 32 ∷ (four_digits d.year
+imf_rest d = 44 ∷ 32 ∷ (two_digits d.day ++ 32 ∷ (month_name d.month ++ 32 ∷ (four_digits d.year
     ++ 32 ∷ clock d.hour d.minute d.second gmt)))
 
 abbrev pub rfc850_rest : DateTime → List ℕ
-rfc850_rest d =
-    44 ∷ 32 ∷ (two_digits d.day ++ 45 ∷ (month_name d.month ++ 45 ∷ (two_digits (d.year % 100)
+rfc850_rest d = 44 ∷ 32 ∷ (two_digits d.day ++ 45 ∷ (month_name d.month ++ 45 ∷ (two_digits (d.year % 100)
     ++ 32 ∷ clock d.hour d.minute d.second gmt)))
 
 abbrev pub asctime_rest : List ℕ → DateTime → List ℕ
@@ -60,24 +58,22 @@ module _ (d : DateTime) (h : Fits d) where
 
   pub rfc850_complete : read_rfc850_date (rfc850_rest d) ≡ Some (in_year d (d.year % 100))
   unfolding read_rfc850_date read_day_and_month read_time_in_gmt read_tag
-  rfc850_complete =
-      rw (
-        read_two_digits_complete d.day _ h.day,
-        read_name-month_name d.month _ h.month,
-        read_two_digits_complete (d.year % 100) _ (omega arith),
-        read_time_complete d.hour d.minute d.second gmt h.hour h.minute h.second,
-      )
+  rfc850_complete = rw (
+    read_two_digits_complete d.day _ h.day,
+    read_name-month_name d.month _ h.month,
+    read_two_digits_complete (d.year % 100) _ (omega arith),
+    read_time_complete d.hour d.minute d.second gmt h.hour h.minute h.second,
+  )
 
   pub asctime_complete : (day : List ℕ) → ((rest : List ℕ) → read_padded_day (day ++ rest) ≡ Some (d.day, rest))
       → read_asctime_date (asctime_rest day d) ≡ Some d
   unfolding read_asctime_date read_tag
-  asctime_complete day read =
-      rw (
-        read_name-month_name d.month _ h.month,
-        read,
-        read_time_complete d.hour d.minute d.second _ h.hour h.minute h.second,
-        read_year_complete d.year [] h.year,
-      )
+  asctime_complete day read = rw (
+    read_name-month_name d.month _ h.month,
+    read,
+    read_time_complete d.hour d.minute d.second _ h.hour h.minute h.second,
+    read_year_complete d.year [] h.year,
+  )
 
 -- a date by its parts
 abbrev with_day : ℕ → ℕ → ℕ → DateTime
@@ -90,11 +86,10 @@ day_and_month_sound : (separator text rest : List ℕ) (day month : ℕ)
     → read_day_and_month separator text ≡ Some ((day, month), rest)
     → text ≡ two_digits day ++ (separator ++ (month_name month ++ (separator ++ rest)))
 unfolding read_day_and_month
-day_and_month_sound separator text rest day month e =
-    and_then_some _ (read_two_digits text) _ e λ d read_day e₁.
+day_and_month_sound separator text rest day month e = and_then_some _ (read_two_digits text) _ e λ d read_day e₁.
     and_then_some _ (option_and_then (read_name month_name 12) (read_tag separator d.1)) _ e₁ λ m led_month e₂.
-    after_tag_sound separator d.1 (read_name month_name 12) m led_month λ at_month tag_month got_month.
-    and_then_some _ (read_tag separator m.1) _ e₂ λ r tagged e₃.
+    after_tag_sound separator d.1 (read_name month_name 12) m led_month λ at_month tag_month got_month. and_then_some _
+    (read_tag separator m.1) _ e₂ λ r tagged e₃.
     let (value, left) = same_parts (d.0, m.0) (day, month) r rest (e₃) in
     let first = (read_two_digits_sound text d.1 d.0 read_day).1 in
     let second = (read_name_sound month_name 12 at_month m.1 m.0 got_month).1 in
@@ -112,11 +107,10 @@ pub imf_sound : (text : List ℕ) (d : DateTime) → read_imf_fixdate text ≡ S
 unfolding read_imf_fixdate
 imf_sound text d e =
     let tagged = option_and_then (read_day_and_month (32 ∷ [])) (read_tag (44 ∷ 32 ∷ []) text) in
-    and_then_some _ tagged _ e λ front led e₁.
-    after_tag_sound (44 ∷ 32 ∷ []) text (read_day_and_month (32 ∷ [])) front led λ at_day tag_day got_day.
-    and_then_some _ (read_year front.1) _ e₁ λ year got_year e₂.
-    and_then_some _ (option_and_then read_time_in_gmt (read_tag (32 ∷ []) year.1)) _ e₂ λ time led_time e₃.
-    after_tag_sound (32 ∷ []) year.1 read_time_in_gmt time led_time λ at_time tag_time got_time.
+    and_then_some _ tagged _ e λ front led e₁. after_tag_sound (44 ∷ 32 ∷ []) text (read_day_and_month (32 ∷ [])) front
+    led λ at_day tag_day got_day. and_then_some _ (read_year front.1) _ e₁ λ year got_year e₂. and_then_some _
+    (option_and_then read_time_in_gmt (read_tag (32 ∷ []) year.1)) _ e₂ λ time led_time e₃. after_tag_sound (32 ∷ [])
+    year.1 read_time_in_gmt time led_time λ at_time tag_time got_time.
     let q = with_time (with_day year.0 front.0.1 front.0.0) time in
     let same : q ≡ d = same_Some _ _ e₃ in
     let m = day_and_month_sound (32 ∷ []) at_day front.1 front.0.0 front.0.1 got_day in
@@ -131,11 +125,10 @@ pub rfc850_sound : (text : List ℕ) (d : DateTime) → read_rfc850_date text �
 unfolding read_rfc850_date
 rfc850_sound text d e =
     let tagged = option_and_then (read_day_and_month (45 ∷ [])) (read_tag (44 ∷ 32 ∷ []) text) in
-    and_then_some _ tagged _ e λ front led e₁.
-    after_tag_sound (44 ∷ 32 ∷ []) text (read_day_and_month (45 ∷ [])) front led λ at_day tag_day got_day.
-    and_then_some _ (read_two_digits front.1) _ e₁ λ year got_year e₂.
-    and_then_some _ (option_and_then read_time_in_gmt (read_tag (32 ∷ []) year.1)) _ e₂ λ time led_time e₃.
-    after_tag_sound (32 ∷ []) year.1 read_time_in_gmt time led_time λ at_time tag_time got_time.
+    and_then_some _ tagged _ e λ front led e₁. after_tag_sound (44 ∷ 32 ∷ []) text (read_day_and_month (45 ∷ [])) front
+    led λ at_day tag_day got_day. and_then_some _ (read_two_digits front.1) _ e₁ λ year got_year e₂. and_then_some _
+    (option_and_then read_time_in_gmt (read_tag (32 ∷ []) year.1)) _ e₂ λ time led_time e₃. after_tag_sound (32 ∷ [])
+    year.1 read_time_in_gmt time led_time λ at_time tag_time got_time.
     let q = with_time (with_day year.0 front.0.1 front.0.0) time in
     let same : q ≡ d = same_Some _ _ e₃ in
     let m = day_and_month_sound (45 ∷ []) at_day front.1 front.0.0 front.0.1 got_day in
@@ -152,15 +145,14 @@ ShownByAsctime text d =
 
 pub asctime_sound : (text : List ℕ) (d : DateTime) → read_asctime_date text ≡ Some d → ShownByAsctime text d
 unfolding read_asctime_date
-asctime_sound text d e =
-    and_then_some _ (option_and_then (read_name month_name 12) (read_tag (32 ∷ []) text)) _ e λ mon led_mon e₁.
-    after_tag_sound (32 ∷ []) text (read_name month_name 12) mon led_mon λ at_mon tag_mon got_mon.
-    and_then_some _ (option_and_then read_padded_day (read_tag (32 ∷ []) mon.1)) _ e₁ λ day led_day e₂.
-    after_tag_sound (32 ∷ []) mon.1 read_padded_day day led_day λ at_day tag_day got_day.
-    and_then_some _ (option_and_then read_time (read_tag (32 ∷ []) day.1)) _ e₂ λ time led_time e₃.
-    after_tag_sound (32 ∷ []) day.1 read_time time led_time λ at_time tag_time got_time.
-    and_then_some _ (option_and_then read_year (read_tag (32 ∷ []) time.1)) _ e₃ λ year led_year e₄.
-    after_tag_sound (32 ∷ []) time.1 read_year year led_year λ at_year tag_year got_year.
+asctime_sound text d e = and_then_some _ (option_and_then (read_name month_name 12) (read_tag (32 ∷ []) text)) _ e λ mon
+    led_mon e₁. after_tag_sound (32 ∷ []) text (read_name month_name 12) mon led_mon λ at_mon tag_mon got_mon.
+    and_then_some _ (option_and_then read_padded_day (read_tag (32 ∷ []) mon.1)) _ e₁ λ day led_day e₂. after_tag_sound
+    (32 ∷ []) mon.1 read_padded_day day led_day λ at_day tag_day got_day. and_then_some _
+    (option_and_then read_time (read_tag (32 ∷ []) day.1)) _ e₂ λ time led_time e₃. after_tag_sound (32 ∷ []) day.1
+    read_time time led_time λ at_time tag_time got_time. and_then_some _
+    (option_and_then read_year (read_tag (32 ∷ []) time.1)) _ e₃ λ year led_year e₄. after_tag_sound (32 ∷ []) time.1
+    read_year year led_year λ at_year tag_year got_year.
     let q = with_time (with_day year.0 mon.0 day.0) time.0 in
     let (test, same) = cond_some _ q d e₄ in
     let end = nil_from_length year.1 (eqb-true _ _ test) in

@@ -126,8 +126,7 @@ argument-within : (s : List ℕ) → Within (length s) (after_argument s)
 argument-within s = grind (arith, within-some, within-cond, within-rest, item-shorter)
 
 pub parameter-within : (s : List ℕ) → Within (length s) (after_parameter s)
-parameter-within s =
-    within-then (length s) after_argument (after_key (after_run Space s))
+parameter-within s = within-then (length s) after_argument (after_key (after_run Space s))
     (λ r e. omega (arith, key-shorter (after_run Space s) r e, run-shorter Space s)) argument-within
 
 some_goes : (o : Option (List ℕ)) (r : List ℕ) → going o ≡ Goes r → o ≡ Some r
@@ -170,9 +169,8 @@ bounded-within s = grind (arith, within-none, within-cond, within-some)
 inner_by-takes : (v : Bool) (b : ℕ) (s r : List ℕ)
     → cond v (Ends s) (going (option_and_then bounded (after_item (b ∷ s)))) ≡ Goes r → length r ≤ length s
 inner_by-takes true b s r e = absurd (goes_ends s r e)
-inner_by-takes false b s r e =
-    within-then (length s) bounded (after_item (b ∷ s)) (item_and_parameters-within b s) bounded-within r
-    (some_goes _ r e)
+inner_by-takes false b s r e = within-then (length s) bounded (after_item (b ∷ s)) (item_and_parameters-within b s)
+    bounded-within r (some_goes _ r e)
 
 inner-takes : (s r : List ℕ) → inner_by s ≡ Goes r → length r < length s
 inner-takes s r e = grind (arith, inner_by-takes)

@@ -23,8 +23,7 @@ stable : (step : List ℕ → Step) → Takes step → (n m : ℕ) (s : List ℕ
     → repeated step n s ≡ repeated step m s
 stable step h zero m s a b = absurd (omega (arith, a))
 stable step h (suc n) zero s a b = absurd (omega (arith, b))
-stable step h (suc n) (suc m) s a b =
-    repeated-suc step n s
+stable step h (suc n) (suc m) s a b = repeated-suc step n s
     ∙ led-same (step s) (λ r. repeated step n r) (λ r. repeated step m r)
     (λ r e. stable step h n m r (omega (arith, h s r e, a)) (omega (arith, h s r e, b)))
     ∙ sym (repeated-suc step m s)
@@ -48,8 +47,7 @@ repeated-shorter : (step : List ℕ → Step) → Takes step → Keeps step → 
     → repeated step n s ≡ Some r → length r ≤ length s
 unfolding repeated
 repeated-shorter step h k zero s r e = absurd (let g : None ≡ Some r = e in cc)
-repeated-shorter step h k (suc n) s r e =
-    led-shorter (step s) (λ t. repeated step n t) (length s) r e (λ t g. k s t g)
+repeated-shorter step h k (suc n) s r e = led-shorter (step s) (λ t. repeated step n t) (length s) r e (λ t g. k s t g)
     (λ t g f. omega (arith, h s t g, repeated-shorter step h k n t r f))
 
 pub all-shorter : (step : List ℕ → Step) → Takes step → Keeps step → (s r : List ℕ) → after_all step s ≡ Some r

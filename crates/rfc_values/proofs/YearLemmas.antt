@@ -36,13 +36,12 @@ is_near_complete now d h = grind (arith, nat_tests)
 -- the same day and time of a later year comes later, or in no year earlier
 seconds_later : (d : DateTime) (y z : ℕ) → y ≤ z → seconds (in_year d y) ≤ seconds (in_year d z)
 unfolding seconds day_number
-seconds_later d y z h =
-    elim (cases_Bool (nat_lt y z)) [
-      | inl t ↦ let less : y < z = ltb-true _ _ t in
-          omega (arith, days_before_year_later y z h, days_of_months_near y z (d.month - 1))
-      | inr f ↦ let same : y ≡ z = (let not_less : z ≤ y = ltb-false _ _ f in omega arith) in
-          rw same (omega arith)
-    ]
+seconds_later d y z h = elim (cases_Bool (nat_lt y z)) [
+  | inl t ↦ let less : y < z = ltb-true _ _ t in
+      omega (arith, days_before_year_later y z h, days_of_months_near y z (d.month - 1))
+  | inr f ↦ let same : y ≡ z = (let not_less : z ≤ y = ltb-false _ _ f in omega arith) in
+      rw same (omega arith)
+]
 
 -- what a date of the calendar has
 valid_day : (d : DateTime) → IsDateTime d → (d.day ≤ 31) × (d.month ≤ 12)
@@ -67,18 +66,17 @@ near_from_1900 now d valid near = grind (arith, cases_Bool, nat_lt, ltb-true, se
 found_from : (now : ℕ) (d : DateTime) (n century : ℕ) → IsNear now d → century ≤ d.year / 100
     → d.year / 100 < century + n → in_near_century now (in_year d (d.year % 100)) n century ≡ Some d
 found_from now d zero century near low high = absurd (omega arith)
-found_from now d (suc n) century near low high =
-    elim (cases_Bool (nat_lt century (d.year / 100))) [
-      | inl t ↦ let before : century < d.year / 100 = ltb-true _ _ t in
-          let far = far_before now d (century * 100 + d.year % 100) d.year near (omega arith) in
-          let back : suc n - 1 ≡ n = omega arith in
-          let found = found_from now d n (century + 1) near (omega arith) (omega arith) in
-          near_later now (in_year d (d.year % 100)) _ (suc n) century (omega arith) refl far ∙ rw back found
-      | inr f ↦ let last : d.year / 100 ≤ century = ltb-false _ _ f in
-          let here : century * 100 + d.year % 100 ≡ d.year = omega arith in
-          near_here now (in_year d (d.year % 100)) d (suc n) century (omega arith)
-          (λ i. record d { year = sym here i }) (is_near_complete now d near)
-    ]
+found_from now d (suc n) century near low high = elim (cases_Bool (nat_lt century (d.year / 100))) [
+  | inl t ↦ let before : century < d.year / 100 = ltb-true _ _ t in
+      let far = far_before now d (century * 100 + d.year % 100) d.year near (omega arith) in
+      let back : suc n - 1 ≡ n = omega arith in
+      let found = found_from now d n (century + 1) near (omega arith) (omega arith) in
+      near_later now (in_year d (d.year % 100)) _ (suc n) century (omega arith) refl far ∙ rw back found
+  | inr f ↦ let last : d.year / 100 ≤ century = ltb-false _ _ f in
+      let here : century * 100 + d.year % 100 ≡ d.year = omega arith in
+      near_here now (in_year d (d.year % 100)) d (suc n) century (omega arith)
+      (λ i. record d { year = sym here i }) (is_near_complete now d near)
+]
 
 pub near_century_complete : (now : ℕ) (d : DateTime) → IsDateTime d → IsNear now d
     → in_near_century now (in_year d (d.year % 100)) 81 19 ≡ Some d

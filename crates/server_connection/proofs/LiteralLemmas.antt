@@ -21,8 +21,7 @@ IsLater-append : (limits : Limits) (state : State) (rest later more : List ℕ) 
     → IsLater limits state (rest ++ more) later
 IsLater-append limits Open rest later more x = IsInterim-append limits rest later more x
 IsLater-append limits Aborted rest later more x = IsInterim-append limits rest later more x
-IsLater-append limits (Closing (Refused why)) rest later more x =
-    (x.0, IsInterim-append limits rest x.0 more x.1, x.2)
+IsLater-append limits (Closing (Refused why)) rest later more x = (x.0, IsInterim-append limits rest x.0 more x.1, x.2)
 IsLater-append limits state rest later more x = x
 
 module _ {H : Type 0} (plans : Plans H) (gives : H → Gives) (config : Config) where
@@ -113,7 +112,6 @@ laid_more plans gives first last a more x =
         out = l.out;
       };
       whole = x.whole;
-      serves = λ is_open.
-          Serves-append a.config a.calls a.received l.text l.rest more (x.serves is_open);
+      serves = λ is_open. Serves-append a.config a.calls a.received l.text l.rest more (x.serves is_open);
       between = x.between;
     }

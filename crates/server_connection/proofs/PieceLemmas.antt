@@ -40,9 +40,8 @@ module _ (gives : Gives) where
 
   -- a literal is sent whole
   pub sends_literal : (bytes : List ℕ) (pieces : List Piece) → Advances gives (Literal bytes ∷ pieces) bytes pieces
-  sends_literal bytes pieces =
-      subst (λ (t : List ℕ). Advances gives (Literal bytes ∷ pieces) t pieces) (append-nil bytes)
-      (emits (Literal bytes) (Literal []) pieces pieces bytes [] (sym (append-nil bytes))
+  sends_literal bytes pieces = subst (λ (t : List ℕ). Advances gives (Literal bytes ∷ pieces) t pieces)
+      (append-nil bytes) (emits (Literal bytes) (Literal []) pieces pieces bytes [] (sym (append-nil bytes))
       (skips (Literal []) pieces pieces [] refl (stays pieces)))
 
   -- the first bytes of a range are sent

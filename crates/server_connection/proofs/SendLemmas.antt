@@ -58,8 +58,7 @@ module _ (plan : ResponsePlan) (old new : Server) (head tail content : List ℕ)
       → head ++ (shown bodiless content ++ tail) ≡ final_text bodiless old r
   text_for true x kind = rw (x.head, x.tail, same, append-nil)
   text_for false x kind =
-      let framed = framed_text (writing (Whole.after_head old r)) content
-      (body_is_taken old r (valid false x) kind) in
+      let framed = framed_text (writing (Whole.after_head old r)) content (body_is_taken old r (valid false x) kind) in
       rw (x.head, x.tail, framed, same) (simp append_assoc)
 
   next_for : (bodiless : Bool) → Frames bodiless plan old [] [] new head tail
@@ -82,13 +81,11 @@ module _ (plan : ResponsePlan) (old new : Server) (head tail content : List ℕ)
 -- ---- the steps
 
 out_at_start : (sent pending head prefix base after : List ℕ) → sent ++ pending ≡ base → after ≡ (pending ++ head) ++
-    prefix
-    → (sent ++ after) ++ [] ≡ base ++ ((head ++ prefix) ++ [])
+    prefix → (sent ++ after) ++ [] ≡ base ++ ((head ++ prefix) ++ [])
 out_at_start sent pending head prefix base after out is = rw (is, ← out) (simp (append_assoc, append-nil))
 
 out_after : (sent pending lost base head front bytes : List ℕ) → lost ≡ [] → (sent ++ pending) ++ lost ≡ base ++
-    (head ++ front)
-    → (sent ++ (pending ++ bytes)) ++ [] ≡ base ++ (head ++ (front ++ bytes))
+    (head ++ front) → (sent ++ (pending ++ bytes)) ++ [] ≡ base ++ (head ++ (front ++ bytes))
 out_after sent pending lost base head front bytes none out =
     let before : sent ++ pending ≡ base ++ (head ++ front) = rw (none, append-nil) at out in
     append-nil _ ∙ sym (append_assoc sent pending bytes) ∙ ap (λ (t : List ℕ). t ++ bytes) before ∙ simp append_assoc
@@ -108,19 +105,17 @@ base_out k server sent pending same b = record {
 }
 
 module _ {H : Type 0} (plans : Plans H) (gives : H → Gives) (first before now : H) where
-  pub begins : (k : Core) (x : HasRequest k) {has_head : Bool}
-      → IsLaid plans gives first before (record {
-        config = k.config;
-        state = k.history.state;
-        received = k.history.received;
-        calls = k.history.calls;
-        output = output k.history;
-        has_head = has_head;
-      })
-      → (request : Request (List ℕ)) → ArePartsOf x.message.head (head_of request)
-      → body_of request ≡ k.body → (plan : ResponsePlan) → plans before request plan now → (bodiless : Bool)
-      → bodiless ≡ is_head (method_kind x.message.head.method) → (new : Server) (after tail : List ℕ)
-      → Frames bodiless plan k.server k.history.pending [] new after tail
+  pub begins : (k : Core) (x : HasRequest k) {has_head : Bool} → IsLaid plans gives first before (record {
+    config = k.config;
+    state = k.history.state;
+    received = k.history.received;
+    calls = k.history.calls;
+    output = output k.history;
+    has_head = has_head;
+  }) → (request : Request (List ℕ))
+      → ArePartsOf x.message.head (head_of request) → body_of request ≡ k.body → (plan : ResponsePlan)
+      → plans before request plan now → (bodiless : Bool) → bodiless ≡ is_head (method_kind x.message.head.method)
+      → (new : Server) (after tail : List ℕ) → Frames bodiless plan k.server k.history.pending [] new after tail
       → IsSending plans gives first before now (record {
         config = k.config;
         history = record (k.history) { pending = after };
@@ -139,8 +134,7 @@ module _ {H : Type 0} (plans : Plans H) (gives : H → Gives) (first before now 
       let none : laid.lost ≡ [] = laid.whole (λ aborted. let wrong = sym x.base.is_open ∙ aborted in cc) in
       let out : output k.history ≡ l.text ++ l.later =
       sym (append-nil (output k.history)) ∙ ap (λ (t : List ℕ). output k.history ++ t) (sym none) ∙ l.out in
-      let at = subst
-      (λ (r : List ℕ). (reads : ReadsRequestMessage k.config.limits r x.message k.history.unread)
+      let at = subst (λ (r : List ℕ). (reads : ReadsRequestMessage k.config.limits r x.message k.history.unread)
       × (k.server ≡ answering k.config.limits x.message.head reads.framing)) same (x.reads, x.server) in
       let s = answering k.config.limits x.message.head at.0.framing in
       let g = subst (λ t. Frames bodiless plan t k.history.pending [] new after tail) at.1 f in
@@ -246,20 +240,15 @@ module _ {H : Type 0} (plans : Plans H) (gives : H → Gives) (first before now 
     -- the connection is cut off
     pub cuts : (left : List Piece) → IsSending plans gives first before now
         (record v { history = record (v.history) { state = Aborted; pending = [] }; left = left })
-    cuts left =
-        goes Aborted v.history.sent [] s.front (v.history.pending ++ s.lost) left s.left s.advances
+    cuts left = goes Aborted v.history.sent [] s.front (v.history.pending ++ s.lost) left s.left s.advances
         (ap (λ (t : List ℕ). t ++ (v.history.pending ++ s.lost)) (append-nil v.history.sent)
-        ∙ sym (append_assoc v.history.sent v.history.pending s.lost) ∙ s.out)
-        (λ wrong. absurd (cc)) (inr refl)
+        ∙ sym (append_assoc v.history.sent v.history.pending s.lost) ∙ s.out) (λ wrong. absurd (cc)) (inr refl)
 
     -- bytes of the output are written
-    pub hands_on : (sent pending : List ℕ) → sent ++ pending ≡ output v.history
-        → IsSending plans gives first before now
+    pub hands_on : (sent pending : List ℕ) → sent ++ pending ≡ output v.history → IsSending plans gives first before now
         (record v { history = record (v.history) { sent = sent; pending = pending } })
-    hands_on sent pending same =
-        goes v.history.state sent pending s.front s.lost v.left s.left s.advances
-        (ap (λ (t : List ℕ). t ++ s.lost) same ∙ s.out)
-        (λ is. (x.left is, x.going is)) x.state
+    hands_on sent pending same = goes v.history.state sent pending s.front s.lost v.left s.left s.advances
+        (ap (λ (t : List ℕ). t ++ s.lost) same ∙ s.out) (λ is. (x.left is, x.going is)) x.state
 
     module _ (is_open : v.history.state ≡ Open) (none : v.left ≡ []) where
       abbrev pub content_for : Bool → List ℕ
@@ -267,8 +256,7 @@ module _ {H : Type 0} (plans : Plans H) (gives : H → Gives) (first before now 
 
       is_content : (bodiless : Bool) → Advances (gives now) (sent_pieces bodiless s.plan) s.front []
           → (length (content_for bodiless) ≡ content_len s.plan) × IsContentOf bodiless (gives now) s.plan
-          (content_for bodiless)
-          × (shown bodiless (content_for bodiless) ≡ s.front)
+          (content_for bodiless) × (shown bodiless (content_for bodiless) ≡ s.front)
       is_content true step =
           let none = Advances-length (gives now) step in (
             length-replicate (content_len s.plan) 0,
@@ -339,9 +327,8 @@ module _ {H : Type 0} (plans : Plans H) (gives : H → Gives) (first before now 
       text = s.head ++ (shown s.bodiless content ++ s.tail)
 
       did : Encodes s.bodiless at_response.server response [] s.server text
-      did = encodes s.plan at_response.server s.server s.head s.tail content (is_content s.bodiless whole).0
-          s.bodiless s.frames
-          s.kind
+      did = encodes s.plan at_response.server s.server s.head s.tail content (is_content s.bodiless whole).0 s.bodiless
+          s.frames s.kind
 
       ended_output : (s.text ++ s.interim) ++ text ≡ v.history.sent ++ (v.history.pending ++ v.tail)
       ended_output =
@@ -406,9 +393,7 @@ module _ {H : Type 0} (plans : Plans H) (gives : H → Gives) (first before now 
 
       read_as : (a : IsAnswer s.message.head response text)
           × ((known_of a.message.head.fields).close ≡ not (keeps_open s.message.head response))
-      read_as =
-          subst
-          (λ (t : List ℕ). (a : IsAnswer s.message.head response t)
+      read_as = subst (λ (t : List ℕ). (a : IsAnswer s.message.head response t)
           × ((known_of a.message.head.fields).close ≡ not (keeps_open s.message.head response)))
           (sym (text_for s.plan at_response.server s.server s.head s.tail content long s.bodiless s.frames s.kind))
           (final_answer at_response.server response valid_response v.config.limits s.message.head
@@ -484,20 +469,17 @@ module _ {H : Type 0} (plans : Plans H) (gives : H → Gives) (first before now 
 
       over : ((keeps_open s.message.head response ≡ true) × (ended ≡ new_server v.config.limits))
           ⊎ ((keeps_open s.message.head response ≡ false) × IsClosed ended)
-      over =
-          starts_over at_response.server response valid_response v.config.limits s.message.head s.reads.reads.framing
+      over = starts_over at_response.server response valid_response v.config.limits s.message.head s.reads.reads.framing
           refl s.bodiless s.kind
 
       pub laid_open : ¬ (IsClosed v.server) → IsLaid plans gives first now (account_after Open)
-      laid_open going =
-          elim over [
-            | inl open_still ↦ laid Open true open_still.0 (inl refl) (λ _. refl)
-            | inr ends ↦ absurd (going (subst IsClosed (sym next) ends.1))
-          ]
+      laid_open going = elim over [
+        | inl open_still ↦ laid Open true open_still.0 (inl refl) (λ _. refl)
+        | inr ends ↦ absurd (going (subst IsClosed (sym next) ends.1))
+      ]
 
       pub laid_closed : IsClosed v.server → IsLaid plans gives first now (account_after (Closing Asked))
-      laid_closed closed =
-          elim over [
-            | inl open_still ↦ let wrong = sym closed ∙ ap writing (next ∙ open_still.1) in absurd (cc)
-            | inr ends ↦ laid (Closing Asked) false ends.0 refl (λ wrong. absurd (cc))
-          ]
+      laid_closed closed = elim over [
+        | inl open_still ↦ let wrong = sym closed ∙ ap writing (next ∙ open_still.1) in absurd (cc)
+        | inr ends ↦ laid (Closing Asked) false ends.0 refl (λ wrong. absurd (cc))
+      ]

@@ -61,15 +61,13 @@ served_emptied config h is x = record {
   serves = x.serves;
   interim = x.interim;
   is_interim = x.is_interim;
-  stands =
-      subst (λ s. Stands s config (record h { unread = [] }) x.answered x.text x.interim x.rest) (sym is)
+  stands = subst (λ s. Stands s config (record h { unread = [] }) x.answered x.text x.interim x.rest) (sym is)
       (subst (λ s. Stands s config h x.answered x.text x.interim x.rest) is x.stands);
 }
 
 emptied : (k : Core) → k.history.state ≡ Closing (Refused BodyTooLarge) → Holds k
     → Holds (with_history k (record (k.history) { unread = [] }))
-emptied k is x =
-    subst (λ s. HoldsAt s (with_history k (record (k.history) { unread = [] }))) (sym is)
+emptied k is x = subst (λ s. HoldsAt s (with_history k (record (k.history) { unread = [] }))) (sym is)
     (served_emptied k.config k.history is (served k x))
 
 -- an aborted connection
@@ -251,15 +249,13 @@ module _ {H : Type 0} (plans : Plans H) (gives : H → Gives) (first last : H) (
 -- before anything was read
 pub laid_first : {H : Type 0} (plans : Plans H) (gives : H → Gives) (h : H) (m : Machine) → m.state ≡ Open
     → m.output.items ≡ [] → IsLaid plans gives h h (account m new_past)
-laid_first plans gives h m is_open none =
-    rw (is_open, none) (record {
-      lost = [];
-      literal =
-          record { text = []; rest = []; sends = (refl, refl, refl); later = []; is_later = inl refl; out = refl };
-      whole = λ _. refl;
-      serves = λ _. (refl, refl);
-      between = λ _ _. refl;
-    })
+laid_first plans gives h m is_open none = rw (is_open, none) (record {
+  lost = [];
+  literal = record { text = []; rest = []; sends = (refl, refl, refl); later = []; is_later = inl refl; out = refl };
+  whole = λ _. refl;
+  serves = λ _. (refl, refl);
+  between = λ _ _. refl;
+})
 
 -- ---- the invariant
 
@@ -319,8 +315,7 @@ module _ {H : Type 0} (plans : Plans H) (gives : H → Gives) where
 
   -- what `HasAnswered` reads of a connection
   abbrev Answered : H → H → Account → Type 0
-  Answered first now a =
-      (last : H) × Chain (Answers plans gives) first a.calls last × (a.state ≢ Aborted → last ≡ now)
+  Answered first now a = (last : H) × Chain (Answers plans gives) first a.calls last × (a.state ≢ Aborted → last ≡ now)
       × IsLaid plans gives first last a
 
   -- the connection is aborted before the response to the next request begins
@@ -470,8 +465,7 @@ module _ {H : Type 0} (plans : Plans H) (gives : H → Gives) where
 
     laid_cut : HasAnswered plans gives first now m p → IsServed m.config (history_of m p)
         → Exchanged plans gives m.config first now p.received p.sent false
-    laid_cut x all =
-        exchanged_by false x.0 x.1 (inl all)
+    laid_cut x all = exchanged_by false x.0 x.1 (inl all)
         (inl (m.output.items ++ x.3.lost, rw append_assoc at x.3.literal))
 
     cut_at : (b : Phase) → RunsAt b plans gives first m now p
@@ -531,8 +525,7 @@ module _ {H : Type 0} {plans : Plans H} {gives : H → Gives} where
   pub step_by : (old : Machine) {s : Server} {i : BytesMut Global} {new : Machine} (h : H)
       → Keeps (with_input old s i) new → GoesOn (with_input old s i) new → old.phase ≡ Receiving → old.state ≡ Open
       → ((p : Past) → Holds (core old p) → Holds (core new p)) → Stays plans gives old h new
-  step_by old {s} {i} {new} h keeps puts is is_open holding =
-      step_with old h keeps is is_open holding
+  step_by old {s} {i} {new} h keeps puts is is_open holding = step_with old h keeps is is_open holding
       (λ first last p held laid. laid_on plans gives first last old new p is_open keeps.config laid
       (goes_from old new s i puts))
 
@@ -540,14 +533,11 @@ module _ {H : Type 0} {plans : Plans H} {gives : H → Gives} where
   pub step_opens : (old : Machine) {s : Server} {i : BytesMut Global} {new : Machine} (h : H)
       → Keeps (with_input old s i) new → old.phase ≡ Receiving → old.state ≡ Open
       → ((p : Past) → Holds (core old p) → Holds (core new p))
-      → ((p : Past) → Holds (core old p) → old.has_head ≡ false)
-      → (spans : List HeaderSpan) (r : RequestSpans)
+      → ((p : Past) → Holds (core old p) → old.has_head ≡ false) → (spans : List HeaderSpan) (r : RequestSpans)
       → ((p : Past) → Holds (core old p) → HasHead (core (with_input old s i) p) spans r)
-      → ((p : Past) → Holds (core old p) → Opens i.items (with_input old s i) new)
-      → Stays plans gives old h new
-  step_opens old {s} {i} {new} h keeps is is_open holding none spans r head opening =
-      step_with old h keeps is is_open holding
-      (λ first last p held laid.
+      → ((p : Past) → Holds (core old p) → Opens i.items (with_input old s i) new) → Stays plans gives old h new
+  step_opens old {s} {i} {new} h keeps is is_open holding none spans r head opening = step_with old h keeps is is_open
+      holding (λ first last p held laid.
       let x = head p held in
       laid_opened plans gives first last old new p is_open keeps.config laid (none p held) x.0.text x.0.rest
       (subst (λ (calls : List Call). Serves old.config p.received calls x.0.text x.0.rest) (sym x.1) x.0.serves) s i
@@ -597,11 +587,9 @@ module _ {H : Type 0} {plans : Plans H} {gives : H → Gives} where
 
   -- a response begins, or the connection is aborted
   pub step_answers : (old new : Machine) (before now : H) → new.config ≡ old.config → new.ended ≡ old.ended
-      → old.phase ≡ Asking
-      → ((first : H) (p : Past) → HasPlanned plans gives first before p
+      → old.phase ≡ Asking → ((first : H) (p : Past) → HasPlanned plans gives first before p
       → IsLaid plans gives first before (account old p) → HasRequest (core_asking old p)
-      → Runs plans gives first new now p)
-      → Leads plans gives old before new now
+      → Runs plans gives first new now p) → Leads plans gives old before new now
   step_answers old new before now config ended is answering = record {
     config = config;
     ended = ended;
@@ -684,9 +672,8 @@ module _ {H : Type 0} {plans : Plans H} {gives : H → Gives} where
   -- before the connection is cut off,
   pub offered_cut : {old new : Machine} (h : H) (bytes : List ℕ) → OffersRange plans gives old h bytes → CutsOff old new
       → Moves plans gives old h [] bytes new h
-  offered_cut {old} {new} h bytes x cut =
-      offered h bytes _ x (sends_range_at (gives h) bytes x.2.3 x.3 x.4) cut.rest.config cut.phase
-      (λ first before p y. subst (IsSending plans gives first before h) (sym (viewed p))
+  offered_cut {old} {new} h bytes x cut = offered h bytes _ x (sends_range_at (gives h) bytes x.2.3 x.3 x.4)
+      cut.rest.config cut.phase (λ first before p y. subst (IsSending plans gives first before h) (sym (viewed p))
       (cuts plans gives first before h _ y new.left.items))
     where
       viewed : (p : Past) → view new (past_after p [] bytes p.calls) ≡ record (view old p) {
@@ -733,11 +720,10 @@ module _ {H : Type 0} {plans : Plans H} {gives : H → Gives} where
   -- bytes are received
   pub moves_in : {old new : Machine} (h : H) (bytes : List ℕ) → old.phase ≡ Receiving → TakesIn old new bytes
       → Moves plans gives old h bytes [] new h
-  moves_in {old} {new} h bytes is x =
-      moves_waiting h bytes is x.rest x.output (λ p z. elim x.ended [
-        | inl going ↦ subst Holds (sym (read p going.0 going.1)) (receives (core old p) bytes _ refl going.0 z)
-        | inr over ↦ subst Holds (sym (same p over.0 over.1)) z
-      ])
+  moves_in {old} {new} h bytes is x = moves_waiting h bytes is x.rest x.output (λ p z. elim x.ended [
+    | inl going ↦ subst Holds (sym (read p going.0 going.1)) (receives (core old p) bytes _ refl going.0 z)
+    | inr over ↦ subst Holds (sym (same p over.0 over.1)) z
+  ])
     where
       read : (p : Past) → old.ended ≡ false → new.ended ≡ (length bytes == 0)
           → core new (past_after p bytes [] p.calls) ≡ with_history (core old p) (after_read (history_of old p) bytes)
@@ -760,8 +746,7 @@ module _ {H : Type 0} {plans : Plans H} {gives : H → Gives} where
   pub moves_drop : {old new : Machine} (h : H) (bytes : List ℕ) → Drops old new bytes
       → Moves plans gives old h bytes [] new h
   moves_drop {old} h bytes (inl nothing) = rw (nothing.1, nothing.0) (moves_none old h)
-  moves_drop h bytes (inr some) =
-      moves_then (moves_empty h some.phase some.state some.empties)
+  moves_drop h bytes (inr some) = moves_then (moves_empty h some.phase some.state some.empties)
       (moves_in h bytes (some.empties.rest.phase ∙ some.phase) some.takes)
 
   -- ---- the loop over a reader and a writer
@@ -803,8 +788,7 @@ module _ {H : Type 0} {plans : Plans H} {gives : H → Gives} where
     consumes = Consumes-none remaining remaining (stays_known remaining);
     appends = written;
     goes = λ config first r s h. record {
-      turned =
-          subst (λ (t : List ℕ). IsTurned plans gives config first new now t (s ++ sent)) (sym (append-nil r))
+      turned = subst (λ (t : List ℕ). IsTurned plans gives config first new now t (s ++ sent)) (sym (append-nil r))
           (by_write old new before now r s sent h.turned x);
       ends = λ e. h.ends (sym same ∙ e);
     };
@@ -825,13 +809,11 @@ module _ {H : Type 0} {plans : Plans H} {gives : H → Gives} where
         consumes = reads;
         appends = Appends-none contents grown flushed;
         goes = λ config first r s h.
-            let y =
-            subst (λ (t : List ℕ). IsTurned plans gives config first between now r t) (append-nil s)
+            let y = subst (λ (t : List ℕ). IsTurned plans gives config first between now r t) (append-nil s)
             (by_write old between now now r s [] h.turned step) in
             let z = goes config first r s h y in record {
-              turned =
-                  subst (λ (t : List ℕ). IsTurned plans gives config first new now (r ++ bytes) t) (sym (append-nil s))
-                  z.turned;
+              turned = subst (λ (t : List ℕ). IsTurned plans gives config first new now (r ++ bytes) t)
+                  (sym (append-nil s)) z.turned;
               ends = z.ends;
             };
       }
@@ -864,8 +846,7 @@ module _ {H : Type 0} {plans : Plans H} {gives : H → Gives} where
         }
 
     pub exchanged : {m : Machine} {now : H} {received sent : List ℕ} (b : Bool)
-        → IsReached plans gives config first m now received sent
-        → ((p : Past) → Runs plans gives first m now p
+        → IsReached plans gives config first m now received sent → ((p : Past) → Runs plans gives first m now p
         → Exchanged plans gives m.config first now p.received p.sent b)
         → Exchanged plans gives config first now received sent b
     exchanged {m} {now} {received} {sent} b x holding =

@@ -66,8 +66,7 @@ module _ (digits : List ℕ) (e : is_boundary digits ≡ true) where
 
   -- their tag is a value of a field, and a tag
   pub tag_is_value : IsFieldValue (strong_tag digits)
-  tag_is_value =
-      All-cons (λ b. IsTrue (is_value_byte b)) quote (digits ++ quote ∷ []) refl
+  tag_is_value = All-cons (λ b. IsTrue (is_value_byte b)) quote (digits ++ quote ∷ []) refl
       (All-append (λ b. IsTrue (is_value_byte b)) digits (quote ∷ [])
       (All-weaker (λ b. is_boundary_byte b ≡ true) (λ b. IsTrue (is_value_byte b)) value_byte digits all_digits)
       (AllPass-from_test is_value_byte (quote ∷ []) refl))
@@ -77,7 +76,6 @@ module _ (digits : List ℕ) (e : is_boundary digits ≡ true) where
     record { is_weak = false; opaque = digits },
     record {
       text = refl;
-      opaque =
-          All-weaker (λ b. is_boundary_byte b ≡ true) (λ b. IsTrue (is_tag_byte b)) tag_byte digits all_digits;
+      opaque = All-weaker (λ b. is_boundary_byte b ≡ true) (λ b. IsTrue (is_tag_byte b)) tag_byte digits all_digits;
     },
   )

@@ -15,9 +15,7 @@ use Rattle.server_files.{specs.Listings.{is_listable, listable, shown, shown_byt
 
 escaped_by : (and less greater quote apostrophe : Bool) (byte : ℕ) (text : List ℕ) → (byte == 38) ≡ and
     → (byte == 60) ≡ less → (byte == 62) ≡ greater → (byte == 34) ≡ quote → (byte == 39) ≡ apostrophe
-    → is_escaped text ≡ true
-    → is_escaped ((if and then codes "&amp;"
-    else (if less then codes "&lt;"
+    → is_escaped text ≡ true → is_escaped ((if and then codes "&amp;" else (if less then codes "&lt;"
     else (if greater then codes "&gt;"
     else (if quote then codes "&quot;" else (if apostrophe then codes "&#39;" else byte ∷ []))))) ++ text) ≡ true
 escaped_by true less greater quote apostrophe byte text a l g q p h = h
@@ -30,9 +28,8 @@ escaped_by false false false false false byte text a l g q p h = rw (a, l, g, q,
 -- what is shown of a text is escaped
 pub shown_is_escaped : (text : List ℕ) → is_escaped (shown text) ≡ true
 shown_is_escaped [] = refl
-shown_is_escaped (byte ∷ text) =
-    escaped_by (byte == 38) (byte == 60) (byte == 62) (byte == 34) (byte == 39) byte (shown text) refl refl refl refl
-    refl (shown_is_escaped text)
+shown_is_escaped (byte ∷ text) = escaped_by (byte == 38) (byte == 60) (byte == 62) (byte == 34) (byte == 39) byte
+    (shown text) refl refl refl refl refl (shown_is_escaped text)
 
 -- ---- links
 
@@ -58,8 +55,7 @@ link_decodes (byte ∷ name) small =
 
 links_decode : (names : List (List ℕ)) → All (All IsByte) names → map percent_decode (map link names) ≡ names
 links_decode [] small = refl
-links_decode (name ∷ names) small =
-    ap (λ (l : List ℕ). l ∷ map percent_decode (map link names))
+links_decode (name ∷ names) small = ap (λ (l : List ℕ). l ∷ map percent_decode (map link names))
     (link_decodes name (All-head (All IsByte) name names small))
     ∙ ap (λ (l : List (List ℕ)). name ∷ l) (links_decode names (All-tail (All IsByte) name names small))
 
@@ -85,9 +81,7 @@ one_byte : (byte : ℕ) → NoQuote byte → All NoQuote (byte ∷ [])
 one_byte byte none = All-cons NoQuote byte [] none (All-nil NoQuote)
 
 shown_by : (and less greater quote apostrophe : Bool) (byte : ℕ) → (byte == 34) ≡ quote
-    → All NoQuote (if and then codes "&amp;"
-    else (if less then codes "&lt;"
-    else (if greater then codes "&gt;"
+    → All NoQuote (if and then codes "&amp;" else (if less then codes "&lt;" else (if greater then codes "&gt;"
     else (if quote then codes "&quot;" else (if apostrophe then codes "&#39;" else byte ∷ [])))))
 shown_by true less greater quote apostrophe byte q = none_in (codes "&amp;") refl
 shown_by false true greater quote apostrophe byte q = none_in (codes "&lt;") refl
@@ -97,8 +91,7 @@ shown_by false false false false true byte q = none_in (codes "&#39;") refl
 shown_by false false false false false byte q = one_byte byte q
 
 none_in_shown : (text : List ℕ) → All NoQuote (shown text)
-none_in_shown text =
-    none_in_all shown_byte text
+none_in_shown text = none_in_all shown_byte text
     (λ byte. shown_by (byte == 38) (byte == 60) (byte == 62) (byte == 34) (byte == 39) byte refl)
 
 no_quote : (byte : ℕ) → is_plain_in_link byte ≡ true → NoQuote byte
@@ -127,8 +120,7 @@ quoted_none text none = ap seconds (slice_split_none (λ byte. byte == 34) text 
 -- the first value, and those after it
 quoted_at : (front value rest : List ℕ) → All NoQuote front → All NoQuote value
     → quoted (front ++ 34 ∷ (value ++ 34 ∷ rest)) ≡ value ∷ quoted rest
-quoted_at front value rest before within =
-    ap seconds
+quoted_at front value rest before within = ap seconds
     (slice_split_at (λ byte. byte == 34) front 34 (value ++ 34 ∷ rest) before refl
     ∙ ap (λ (l : List (List ℕ)). front ∷ l) (slice_split_at (λ byte. byte == 34) value 34 rest within refl))
 
@@ -142,8 +134,7 @@ abbrev after_link : List ℕ → List ℕ
 after_link name = codes ">" ++ shown name ++ codes "</a>\n"
 
 none_after_link : (name : List ℕ) → All NoQuote (after_link name)
-none_after_link name =
-    All-append NoQuote (codes ">" ++ shown name) (codes "</a>\n")
+none_after_link name = All-append NoQuote (codes ">" ++ shown name) (codes "</a>\n")
     (All-append NoQuote (codes ">") (shown name) (none_in (codes ">") refl) (none_in_shown name))
     (none_in (codes "</a>\n") refl)
 
@@ -151,23 +142,20 @@ flat_item : (f a l b s c r z : List ℕ)
     → (f ++ (((((a ++ l) ++ b) ++ s) ++ c) ++ r)) ++ z ≡ f ++ (a ++ (l ++ (b ++ (s ++ (c ++ (r ++ z))))))
 flat_item f a l b s c r z = simp append_assoc refl
 
-flat_cut : (f a l b s c r z : List ℕ)
-    → (f ++ a) ++ (34 ∷ (l ++ (34 ∷ ((((b ++ s) ++ c) ++ r) ++ z))))
+flat_cut : (f a l b s c r z : List ℕ) → (f ++ a) ++ (34 ∷ (l ++ (34 ∷ ((((b ++ s) ++ c) ++ r) ++ z))))
     ≡ f ++ (a ++ (34 ∷ (l ++ (34 ∷ (b ++ (s ++ (c ++ (r ++ z))))))))
 flat_cut f a l b s c r z = simp append_assoc refl
 
 items_quoted : (names : List (List ℕ)) (front : List ℕ) → All NoQuote front
     → quoted ((front ++ flat_map item names) ++ foot) ≡ map link names
-items_quoted [] front before =
-    ap (λ (l : List ℕ). quoted (l ++ foot)) (append-nil front)
+items_quoted [] front before = ap (λ (l : List ℕ). quoted (l ++ foot)) (append-nil front)
     ∙ quoted_none (front ++ foot) (All-append NoQuote front foot before (none_in foot refl))
 items_quoted (name ∷ names) front before =
     let rest : List ℕ = flat_map item names in
     let cut : (front ++ (item name ++ rest)) ++ foot
     ≡ (front ++ codes "<li><a href=") ++ (34 ∷ (link name ++ (34 ∷ ((after_link name ++ rest) ++ foot)))) =
     flat_item front (codes "<li><a href=\"") (link name) (codes "\">") (shown name) (codes "</a>\n") rest foot
-    ∙ sym
-    (flat_cut front (codes "<li><a href=") (link name) (codes ">") (shown name) (codes "</a>\n") rest foot) in
+    ∙ sym (flat_cut front (codes "<li><a href=") (link name) (codes ">") (shown name) (codes "</a>\n") rest foot) in
     ap quoted cut
     ∙ quoted_at (front ++ codes "<li><a href=") (link name) ((after_link name ++ rest) ++ foot)
     (All-append NoQuote front (codes "<li><a href=") before (none_in (codes "<li><a href=") refl)) (none_in_link name)
@@ -179,14 +167,11 @@ none_in_title folder =
 
 none_between : (before text after : List ℕ) → All NoQuote before → All NoQuote text → All NoQuote after
     → All NoQuote (before ++ text ++ after)
-none_between before text after b t a =
-    All-append NoQuote (before ++ text) after (All-append NoQuote before text b t) a
+none_between before text after b t a = All-append NoQuote (before ++ text) after (All-append NoQuote before text b t) a
 
 none_in_page : (text : List ℕ) → All NoQuote text → All NoQuote (page_with text)
-none_in_page text none =
-    All-append NoQuote (codes "<!DOCTYPE html>\n<title>" ++ text ++ codes "</title>\n")
-    (codes "<h1>" ++ text ++ codes "</h1>\n")
-    (none_between (codes "<!DOCTYPE html>\n<title>") text (codes "</title>\n")
+none_in_page text none = All-append NoQuote (codes "<!DOCTYPE html>\n<title>" ++ text ++ codes "</title>\n")
+    (codes "<h1>" ++ text ++ codes "</h1>\n") (none_between (codes "<!DOCTYPE html>\n<title>") text (codes "</title>\n")
     (none_in (codes "<!DOCTYPE html>\n<title>") refl) none (none_in (codes "</title>\n") refl))
     (none_between (codes "<h1>") text (codes "</h1>\n") (none_in (codes "<h1>") refl) none
     (none_in (codes "</h1>\n") refl))
@@ -196,9 +181,8 @@ pub page_links : (folder : List ℕ) (names : List (List ℕ)) → All (All IsBy
     → map percent_decode (quoted (listing_page folder names)) ≡ codes "../" ∷ names
 page_links folder names small =
     let title : List ℕ = codes "Index of /" ++ shown folder in
-    let front : All NoQuote (page_with title ++ codes "<ul>\n") =
-    All-append NoQuote (page_with title) (codes "<ul>\n") (none_in_page title (none_in_title folder))
-    (none_in (codes "<ul>\n") refl) in
+    let front : All NoQuote (page_with title ++ codes "<ul>\n") = All-append NoQuote (page_with title) (codes "<ul>\n")
+    (none_in_page title (none_in_title folder)) (none_in (codes "<ul>\n") refl) in
     ap (map percent_decode) (items_quoted (codes "../" ∷ names) (page_with title ++ codes "<ul>\n") front)
     ∙ links_decode (codes "../" ∷ names) (All-cons (All IsByte) (codes "../") names up small)
   where
@@ -239,10 +223,8 @@ items_more {A} names i name t t1 t2 within is e1 e2 =
 -- the parts of a page, pushed one after the other
 pub page_made : (p u i m f t0 t1 t2 t3 t4 : List ℕ) → t0 ≡ p → t1 ≡ t0 ++ u → t2 ≡ t1 ++ i → t3 ≡ t2 ++ m → t4 ≡ t3 ++ f
     → t4 ≡ ((p ++ u) ++ (i ++ m)) ++ f
-page_made p u i m f t0 t1 t2 t3 t4 e0 e1 e2 e3 e4 =
-    e4
-    ∙ ap (λ (x : List ℕ). x ++ f)
-    (e3
+page_made p u i m f t0 t1 t2 t3 t4 e0 e1 e2 e3 e4 = e4
+    ∙ ap (λ (x : List ℕ). x ++ f) (e3
     ∙ ap (λ (x : List ℕ). x ++ m) (e2 ∙ ap (λ (x : List ℕ). x ++ i) (e1 ∙ ap (λ (x : List ℕ). x ++ u) e0))
     ∙ append_assoc (p ++ u) i m)
 

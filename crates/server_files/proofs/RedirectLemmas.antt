@@ -55,11 +55,9 @@ on_host [] named query h unslashed = let none : 0 ≡ 47 = h.rooted in absurd (o
 on_host (root ∷ []) named query h unslashed = absurd (unslashed (eq-eqb root 47 h.rooted))
 on_host (root ∷ first ∷ rest) named query h unslashed = record {
   rooted = h.rooted;
-  no_slash = λ e.
-      no_slash rest named
+  no_slash = λ e. no_slash rest named
       (subst (λ (byte : ℕ). named ≡ with_index (percent_decode (byte ∷ rest))) e h.is_named) h.plain;
-  no_backslash = λ e.
-      no_backslash rest named
+  no_backslash = λ e. no_backslash rest named
       (subst (λ (byte : ℕ). named ≡ with_index (percent_decode (byte ∷ rest))) e h.is_named) h.plain;
 }
 

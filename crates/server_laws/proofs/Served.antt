@@ -183,8 +183,8 @@ module _ {now : Option ℕ} {left : ℕ} {settings : Settings} {site : Site} {re
     get_root =
         let full = whole_sent (present x) file asked.method asked.fields site.resource.boundary x.answer.status
         x.answer.sends h.own goes.response goes.answered ((answered x).3 (inl (x.asks.2.method ∙ asks.method)))
-        goes.has_status x.found.status (rw admitted at (sym x.carries.status ∙ all_sent.0)) goes.sends goes.has_fields
-        in
+        goes.has_status x.found.status (rw admitted at (sym x.carries.status ∙ all_sent.0)) goes.sends
+        goes.has_fields in
         let alone : h.shared ≡ [] = simp cors at h.is_shared in
         let vary : vary_fields (vary_lines (resource x) x.answer.reason) ≡ [] =
         rw admitted (simp (of.is_site.media_type, of.is_site.language, negotiates)) in

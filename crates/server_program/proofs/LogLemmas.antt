@@ -24,7 +24,6 @@ both (byte ∷ front) rest h k = grind (arith, nat_tests, both front rest)
 
 pub no_quote : (text : List ℕ) → All (λ byte. byte < 256) text → list_all is_quotable (logged text) ≡ true
 no_quote [] small = refl
-no_quote (byte ∷ text) small =
-    both (logged_byte byte) (logged text)
+no_quote (byte ∷ text) small = both (logged_byte byte) (logged text)
     (quotable_byte (is_plain_byte byte) byte (All-head (λ b. b < 256) byte text small) refl)
     (no_quote text (All-tail (λ b. b < 256) byte text small))

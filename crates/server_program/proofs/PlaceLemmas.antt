@@ -12,8 +12,7 @@ Steps s part t = IsNextComponent (components_remaining s) part (components_remai
 -- the iterator gives the components that are left
 pub YieldsList-from_components : {s : Components} (parts : List (List ℕ)) → components_remaining s ≡ parts
     → YieldsList Steps component_bytes s parts
-YieldsList-from_components {s} parts is =
-    subst (YieldsList Steps component_bytes s) is
+YieldsList-from_components {s} parts is = subst (YieldsList Steps component_bytes s) is
     (YieldsList-from_shown Steps component_bytes components_remaining (λ t u h. ap length h.0) (λ t part u h. h.0) s)
 
 abbrev pub IsDown : List ℕ → Type 0

@@ -74,8 +74,7 @@ module _ (present : ℕ) (resource : Resource) (asked : Asked) where
   stopped PreconditionRequired = tt
   stopped Admitted = tt
 
-  going : (place : Option ℕ) (response : Option Response)
-      → IsAnswered present asked.method asked.fields
+  going : (place : Option ℕ) (response : Option Response) → IsAnswered present asked.method asked.fields
       (target_of resource.state (at_place resource.representations.items place))
       (content_of (at_place resource.representations.items place)) resource.boundary response
       → IsPlannedIn present resource asked (is_sent place response)
@@ -86,8 +85,7 @@ module _ (present : ℕ) (resource : Resource) (asked : Asked) where
       → GivesIf admitted present resource asked reason status sent fields → IsPlannedIn present resource asked sent
   given true reason status sent fields h =
       subst (IsPlannedIn present resource asked) (sym h.goes.sends) (going h.place h.goes.response h.goes.answered)
-  given false reason status sent fields h =
-      subst (IsPlannedIn present resource asked) (sym h.sends) (stopped reason)
+  given false reason status sent fields h = subst (IsPlannedIn present resource asked) (sym h.sends) (stopped reason)
 
   -- the plan of the preconditions and Range decides what an answer sends of a representation
   pub planned_in : (answer : Answer) → IsAnswer present resource asked answer
@@ -98,8 +96,7 @@ module _ (present : ℕ) (resource : Resource) (asked : Asked) where
     fits_at : (file : Option File) (plan : Plan)
         → IsPlanOf present resource asked (option_map (representation_of present) file) plan → FitsOf file plan
     fits_at None plan h = tt
-    fits_at (Some file) plan h =
-        Fits-from_plan present asked.method asked.fields
+    fits_at (Some file) plan h = Fits-from_plan present asked.method asked.fields
         (target_of resource.state (Some (representation_of present file))) (len_of file.source)
         (limits_of (content_of (Some (representation_of present file)))) plan h
 
@@ -107,8 +104,7 @@ module _ (present : ℕ) (resource : Resource) (asked : Asked) where
     fits_in Nothing h = tt
     fits_in Alternatives h = tt
     fits_in (Planned None plan) h = tt
-    fits_in (Planned (Some place) plan) h =
-        fits_at (slice_get files place) plan
+    fits_in (Planned (Some place) plan) h = fits_at (slice_get files place) plan
         (subst (λ (r : Option Representation). IsPlanOf present resource asked r plan)
         (slice_get-map (representation_of present) files place)
         (subst (λ (l : List Representation). IsPlanOf present resource asked (slice_get l place) plan) e h))
@@ -130,18 +126,14 @@ pub Carries-at : (before : List Header) (site other : Site) (files : List File) 
     → Carries before other files code sent given response → Carries before site files code sent given response
 Carries-at before site other files code sent given response cache divider pages cors h = record {
   status = h.status;
-  headers =
-      h.headers
-      ∙ ap
-      (λ (x : Option FieldValue).
+  headers = h.headers
+      ∙ ap (λ (x : Option FieldValue).
       trimmed_lines (((before ++ cache_sent sent x) ++ headers_sent (is_some other.resource.cors) given)
       ++ explained_fields code sent)) cache
-      ∙ ap
-      (λ (x : Option Policy).
+      ∙ ap (λ (x : Option Policy).
       trimmed_lines (((before ++ cache_sent sent site.cache_control) ++ headers_sent (is_some x) given)
       ++ explained_fields code sent)) cors;
-  pieces =
-      h.pieces
+  pieces = h.pieces
       ∙ ap (λ (x : _). pieces_for (string_bytes x) other.pages.items files code sent) divider
       ∙ ap (λ (x : _). pieces_for (string_bytes site.divider) x.items files code sent) pages;
   valid = h.valid;

@@ -10,8 +10,7 @@ use Rattle.server_service.specs.declared.source.Source.TheVariants.{Kept as InMe
 
 -- the first bytes, and those after them
 take_plus : (n m : ℕ) (bytes : List ℕ) → take (n + m) bytes ≡ take n bytes ++ take m (drop n bytes)
-take_plus n m bytes =
-    sym (take-append-drop n (take (n + m) bytes))
+take_plus n m bytes = sym (take-append-drop n (take (n + m) bytes))
     ∙ ap (λ (l : List ℕ). l ++ drop n (take (n + m) bytes)) (take-take n (n + m) bytes (omega arith))
     ∙ ap (λ (l : List ℕ). take n bytes ++ l) (drop-take n m bytes)
 
@@ -49,15 +48,13 @@ module _ (kept : Kept) where
           ap (λ (l : List ℕ). sent ++ l) (advanced rest none)
           ∙ sym (append_assoc sent (piece_bytes kept.content after) (bytes_of kept.content pieces))
           ∙ ap (λ (l : List ℕ). l ++ bytes_of kept.content pieces) (sym (emitted piece after sent step))
-      advanced (skips piece pieces left front empty rest) none =
-          advanced rest none
+      advanced (skips piece pieces left front empty rest) none = advanced rest none
           ∙ ap (λ (l : List ℕ). l ++ bytes_of kept.content pieces) (sym (nothing piece empty))
 
   -- all of it is sent, where one range is all of it
   pub sent_whole : (sent : List ℕ)
       → AreSent (gives_at (InMemory kept)) (Range (record { start = 0; len = length kept.content }) ∷ []) sent
       → sent ≡ kept.content
-  sent_whole sent h =
-      sent_bytes (Range (record { start = 0; len = length kept.content }) ∷ []) sent h
+  sent_whole sent h = sent_bytes (Range (record { start = 0; len = length kept.content }) ∷ []) sent h
       ∙ append-nil (take (length kept.content) kept.content)
       ∙ take_all (length kept.content) kept.content (omega arith)

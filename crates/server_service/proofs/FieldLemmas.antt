@@ -13,12 +13,9 @@ headers_set-next [] field some is = absurd (omega (arith, some))
 headers_set-next (first ∷ fields) field some is =
     let whole : take (length (first ∷ fields) - 1) fields ≡ fields =
     take_all (length (first ∷ fields) - 1) fields (omega arith) in
-    ap
-    (λ (rest : List Encoded).
-    lines_unless (is_named first.name (encoded_fields rest)) (field_of first)
+    ap (λ (rest : List Encoded). lines_unless (is_named first.name (encoded_fields rest)) (field_of first)
     ++ headers_set (encoded_fields rest)) (sym whole)
-    ∙ ap
-    (λ (x : Encoded).
+    ∙ ap (λ (x : Encoded).
     lines_unless (is_named x.name (encoded_fields (take (length (first ∷ fields) - 1) fields))) (field_of x)
     ++ headers_set (encoded_fields (take (length (first ∷ fields) - 1) fields))) (sym is)
 

@@ -43,41 +43,39 @@ absent_alike status f g h k =
 
 folder_alike : (path : List ℕ) (query : Option (List ℕ)) (f g : Found) → FindsFolder path query f
     → FindsFolder path query g → AreAlike f g
-folder_alike path query f g x y =
-    elim x [
-      | inl h ↦ elim y [ inl k ↦ absent_alike 404 f g h.1 k.1 | inr k ↦ absurd (k.has_index h.0) ]
-      | inr h ↦
-          elim y [
-            | inl k ↦ absurd (h.has_index k.0)
-            | inr k ↦
-                record {
-                  state = h.state ∙ sym k.state;
-                  status = h.status ∙ sym k.status;
-                  files = h.files ∙ sym k.files;
-                }
-          ]
-    ]
+folder_alike path query f g x y = elim x [
+  | inl h ↦ elim y [ inl k ↦ absent_alike 404 f g h.1 k.1 | inr k ↦ absurd (k.has_index h.0) ]
+  | inr h ↦
+      elim y [
+        | inl k ↦ absurd (h.has_index k.0)
+        | inr k ↦
+            record {
+              state = h.state ∙ sym k.state;
+              status = h.status ∙ sym k.status;
+              files = h.files ∙ sym k.files;
+            }
+      ]
+]
 
 listing_alike : (path : List ℕ) (listing : Listing) (f g : Found) → FindsListing path listing f
     → FindsListing path listing g → AreAlike f g
-listing_alike path listing f g x y =
-    elim x [
-      | inl h ↦
-          elim y [
-            | inl k ↦
-                record {
-                  state = h.1.state ∙ sym k.1.state;
-                  status = h.1.status ∙ sym k.1.status;
-                  files = h.1.files ∙ sym k.1.files;
-                }
-            | inr k ↦ let yes = h.0 in let no = k.0 in absurd (cc (yes, no))
-          ]
-      | inr h ↦
-          elim y [
-            | inl k ↦ let no = h.0 in let yes = k.0 in absurd (cc (yes, no))
-            | inr k ↦ absent_alike 404 f g h.1 k.1
-          ]
-    ]
+listing_alike path listing f g x y = elim x [
+  | inl h ↦
+      elim y [
+        | inl k ↦
+            record {
+              state = h.1.state ∙ sym k.1.state;
+              status = h.1.status ∙ sym k.1.status;
+              files = h.1.files ∙ sym k.1.files;
+            }
+        | inr k ↦ let yes = h.0 in let no = k.0 in absurd (cc (yes, no))
+      ]
+  | inr h ↦
+      elim y [
+        | inl k ↦ let no = h.0 in let yes = k.0 in absurd (cc (yes, no))
+        | inr k ↦ absent_alike 404 f g h.1 k.1
+      ]
+]
 
 module _ (negotiates : Bool) (look : List ℕ → Entry) (uri : Uri) (f g : Found) where
   abbrev Has : List ℕ → Entry → Type 0
@@ -90,29 +88,25 @@ module _ (negotiates : Bool) (look : List ℕ → Entry) (uri : Uri) (f g : Foun
   entry_alike named Unavailable h k = absent_alike 503 f g h k
   entry_alike named Folder h k = folder_alike (uri_path uri) (uri_query uri) f g h k
   entry_alike named (Listed listing) h k = listing_alike (uri_path uri) listing f g h.1 k.1
-  entry_alike named (Readable file) h k =
-      record {
-        state = h.0 ∙ sym k.0;
-        status = h.1 ∙ sym k.1;
-        files = contents_once look negotiates named file f.files.items g.files.items h.2 k.2;
-      }
+  entry_alike named (Readable file) h k = record {
+    state = h.0 ∙ sym k.0;
+    status = h.1 ∙ sym k.1;
+    files = contents_once look negotiates named file f.files.items g.files.items h.2 k.2;
+  }
 
   leads_alike : LeadsTo negotiates Has uri f → LeadsTo negotiates Has uri g → AreAlike f g
-  leads_alike x y =
-      elim x [
-        | inl h ↦
-            elim y [
-              | inl k ↦
-                  let named : h.0 ≡ k.0 = h.1.is_named ∙ sym k.1.is_named in
-                  let found : h.2.0 ≡ k.2.0 = h.2.1 ∙ ap look named ∙ sym k.2.1 in
-                  entry_alike k.0 k.2.0
-                  (subst (λ (p : List ℕ). FindsEntry negotiates Has uri p k.2.0 f) named
-                  (subst (λ (e : Entry). FindsEntry negotiates Has uri h.0 e f) found h.2.2))
-                  k.2.2
-              | inr k ↦ absurd (k.0 h.0 h.1)
-            ]
-        | inr h ↦ elim y [ inl k ↦ absurd (h.0 k.0 k.1) | inr k ↦ absent_alike 404 f g h.1 k.1 ]
-      ]
+  leads_alike x y = elim x [
+    | inl h ↦
+        elim y [
+          | inl k ↦
+              let named : h.0 ≡ k.0 = h.1.is_named ∙ sym k.1.is_named in
+              let found : h.2.0 ≡ k.2.0 = h.2.1 ∙ ap look named ∙ sym k.2.1 in
+              entry_alike k.0 k.2.0 (subst (λ (p : List ℕ). FindsEntry negotiates Has uri p k.2.0 f) named
+              (subst (λ (e : Entry). FindsEntry negotiates Has uri h.0 e f) found h.2.2)) k.2.2
+          | inr k ↦ absurd (k.0 h.0 h.1)
+        ]
+    | inr h ↦ elim y [ inl k ↦ absurd (h.0 k.0 k.1) | inr k ↦ absent_alike 404 f g h.1 k.1 ]
+  ]
 
 -- ---- what is asked
 
@@ -124,22 +118,20 @@ authority_once (Some text) (Some line) None h k = absurd (k h.0)
 authority_once (Some text) (Some line) (Some other) h k = ap Some (h.1 ∙ sym k.1)
 
 protocol_once : (version : _) (a b : Protocol) → IsProtocolOf version a → IsProtocolOf version b → a ≡ b
-protocol_once version a b x y =
-    elim x [
-      | inl h ↦ elim y [ inl k ↦ h.1 ∙ sym k.1 | inr k ↦ absurd (k.0 h.0) ]
-      | inr h ↦ elim y [ inl k ↦ absurd (h.0 k.0) | inr k ↦ h.1 ∙ sym k.1 ]
-    ]
+protocol_once version a b x y = elim x [
+  | inl h ↦ elim y [ inl k ↦ h.1 ∙ sym k.1 | inr k ↦ absurd (k.0 h.0) ]
+  | inr h ↦ elim y [ inl k ↦ absurd (h.0 k.0) | inr k ↦ h.1 ∙ sym k.1 ]
+]
 
 abbrev asking : Protocol → List ℕ → Option Line → RequestContent → LineMap → Option Denial → Asked
-asking protocol method authority content fields denied =
-    record {
-      protocol = protocol;
-      method = method;
-      authority = authority;
-      content = content;
-      fields = fields;
-      denied = denied;
-    }
+asking protocol method authority content fields denied = record {
+  protocol = protocol;
+  method = method;
+  authority = authority;
+  content = content;
+  fields = fields;
+  denied = denied;
+}
 
 pub asked_once : (request : Request (List ℕ)) (a b : Asked) → Asks request a → Asks request b → a ≡ b
 asked_once request a b h k =
@@ -151,8 +143,7 @@ asked_once request a b h k =
     (h.2.has_authority ∙ authority ∙ sym k.2.has_authority)
     ∙ ap (λ (x : RequestContent). asking b.protocol b.method b.authority x a.fields a.denied)
     (h.2.content ∙ sym k.2.content)
-    ∙ ap (λ (x : LineMap). asking b.protocol b.method b.authority b.content x a.denied)
-    (h.2.fields ∙ sym k.2.fields)
+    ∙ ap (λ (x : LineMap). asking b.protocol b.method b.authority b.content x a.denied) (h.2.fields ∙ sym k.2.fields)
     ∙ ap (λ (x : Option Denial). asking b.protocol b.method b.authority b.content b.fields x)
     (h.2.admitted ∙ sym k.2.admitted)
 
@@ -171,8 +162,7 @@ module _ (present : ℕ) (resource : Resource) (asked : Asked) where
       let representation = at_place resource.representations.items place in
       same_by_plan present asked.method asked.fields (target_of resource.state representation)
       (divisible_len (content_of representation)) (limits_of (content_of representation))
-      (λ plan. of (Planned place plan)) (several place) (same_parts place) p q h
-      (subst
+      (λ plan. of (Planned place plan)) (several place) (same_parts place) p q h (subst
       (λ (at : Option ℕ). IsPlanOf present resource asked (at_place resource.representations.items at) q)
       (sym sent.0) k) sent.1
       ∙ ap (λ (at : Option ℕ). of (Planned at q)) sent.0
@@ -208,58 +198,50 @@ one_of present resource asked a b h k = record {
 sendable_as : (present : ℕ) (resource : Resource) (divider : List ℕ) (files : List File) (a b : Answer)
     → AreOne present resource a b → IsSendable divider files a.sends → IsSendable divider files b.sends
 sendable_as present resource divider files a b one h =
-    let several : sends_several a.sends ≡ sends_several b.sends =
-    by_sends present resource one.asked sends_several (λ place parts. true) (λ place parts. refl) a.sends b.sends
-    one.same.sends one.first one.second in
-    let file : file_sent files a.sends ≡ file_sent files b.sends =
-    by_sends present resource one.asked (file_sent files) (λ place parts. file_at files place) (λ place parts. refl)
-    a.sends b.sends one.same.sends one.first one.second in
+    let several : sends_several a.sends ≡ sends_several b.sends = by_sends present resource one.asked sends_several
+    (λ place parts. true) (λ place parts. refl) a.sends b.sends one.same.sends one.first one.second in
+    let file : file_sent files a.sends ≡ file_sent files b.sends = by_sends present resource one.asked (file_sent files)
+    (λ place parts. file_at files place) (λ place parts. refl) a.sends b.sends one.same.sends one.first one.second in
     λ more. subst (λ (of : Option File). ¬ (IsHeldBy divider of)) file (h (several ∙ more))
 
 decided_once : (present : ℕ) (divider : List ℕ) (files : List File) (resource : Resource) (asked : Asked)
     (a b : Answer) → Decides present divider files resource asked a
     → Decides present divider files resource asked b → AreOne present resource a b
-decided_once present divider files resource asked a b x y =
-    elim x [
-      | inl h ↦
-          elim y [
-            | inl k ↦ one_of present resource asked a b h.1 k.1
-            | inr k ↦
-                absurd (k.1
-                (sendable_as present resource divider files a k.0
-                (one_of present resource asked a k.0 h.1 k.2) h.0))
-          ]
-      | inr h ↦
-          elim y [
-            | inl k ↦
-                absurd (h.1
-                (sendable_as present resource divider files b h.0
-                (one_of present resource asked b h.0 k.1 h.2) k.0))
-            | inr k ↦ one_of present resource (as_head asked) a b h.3 k.3
-          ]
-    ]
+decided_once present divider files resource asked a b x y = elim x [
+  | inl h ↦
+      elim y [
+        | inl k ↦ one_of present resource asked a b h.1 k.1
+        | inr k ↦
+            absurd (k.1 (sendable_as present resource divider files a k.0
+            (one_of present resource asked a k.0 h.1 k.2) h.0))
+      ]
+  | inr h ↦
+      elim y [
+        | inl k ↦
+            absurd (h.1 (sendable_as present resource divider files b h.0
+            (one_of present resource asked b h.0 k.1 h.2) k.0))
+        | inr k ↦ one_of present resource (as_head asked) a b h.3 k.3
+      ]
+]
 
 -- ---- the resource
 
 module _ (present : ℕ) (site : Resource) (f g : Found) (alike : AreAlike f g) (r s : Resource)
     (d : IsDescribed present site f r) (e : IsDescribed present site g s) where
   moves : (asked : Asked) (answer : Answer) → IsAnswer present r asked answer → IsAnswer present s asked answer
-  moves asked answer h =
-      subst (λ (x : Resource). IsAnswer present x asked answer) (sym e.is)
+  moves asked answer h = subst (λ (x : Resource). IsAnswer present x asked answer) (sym e.is)
       (same_answer present (record site { state = g.state; representations = d.representations }) d.representations
-      e.representations (d.are ∙ ap (map (representation_of present)) alike.files ∙ sym e.are) asked answer
-      (subst
+      e.representations (d.are ∙ ap (map (representation_of present)) alike.files ∙ sym e.are) asked answer (subst
       (λ (x : State).
       IsAnswer present (record site { state = x; representations = d.representations }) asked answer) alike.state
       (subst (λ (x : Resource). IsAnswer present x asked answer) d.is h)))
 
   moves_decided : (divider : List ℕ) (files : List File) (asked : Asked) (answer : Answer)
       → Decides present divider files r asked answer → Decides present divider files s asked answer
-  moves_decided divider files asked answer x =
-      elim x [
-        | inl h ↦ inl (h.0, moves asked answer h.1)
-        | inr h ↦ inr (h.0, h.1, moves asked h.0 h.2, moves (as_head asked) answer h.3)
-      ]
+  moves_decided divider files asked answer x = elim x [
+    | inl h ↦ inl (h.0, moves asked answer h.1)
+    | inr h ↦ inr (h.0, h.1, moves asked h.0 h.2, moves (as_head asked) answer h.3)
+  ]
 
 -- ---- the response
 
@@ -285,8 +267,7 @@ module _ (present : ℕ) (resource : Resource) (before : List Header) (site : Si
         by_sends present resource one.asked of several same_parts a.sends b.sends one.same.sends one.first one.second
 
     status_same : status_for absent a.reason a.status ≡ status_for absent b.reason b.status
-    status_same =
-        ap (λ (reason : Reason). status_for absent reason a.status) one.same.reason
+    status_same = ap (λ (reason : Reason). status_for absent reason a.status) one.same.reason
         ∙ ap (λ (status : Option ℕ). status_for absent b.reason status) one.same.status
 
     abbrev has_policy : Bool
@@ -299,20 +280,15 @@ module _ (present : ℕ) (resource : Resource) (before : List Header) (site : Si
         (explained_fields (status_for absent a.reason a.status) a.sends)
         ≡ together (cache_sent b.sends site.cache_control) (encoded_fields b.fields.items)
         (explained_fields (status_for absent b.reason b.status) b.sends)
-    fields_same =
-        ap
-        (λ (l : List Header). together l (encoded_fields a.fields.items)
+    fields_same = ap (λ (l : List Header). together l (encoded_fields a.fields.items)
         (explained_fields (status_for absent a.reason a.status) a.sends))
         (same_by (λ sent. cache_sent sent site.cache_control)
         (λ place parts. cache_sent (Planned place Full) site.cache_control) (λ place parts. refl))
-        ∙ ap
-        (λ (l : List Field). together (cache_sent b.sends site.cache_control) l
+        ∙ ap (λ (l : List Field). together (cache_sent b.sends site.cache_control) l
         (explained_fields (status_for absent a.reason a.status) a.sends)) one.same.fields
-        ∙ ap
-        (λ (n : ℕ). together (cache_sent b.sends site.cache_control) (encoded_fields b.fields.items)
+        ∙ ap (λ (n : ℕ). together (cache_sent b.sends site.cache_control) (encoded_fields b.fields.items)
         (explained_fields n a.sends)) status_same
-        ∙ ap
-        (λ (l : List Header). together (cache_sent b.sends site.cache_control) (encoded_fields b.fields.items) l)
+        ∙ ap (λ (l : List Header). together (cache_sent b.sends site.cache_control) (encoded_fields b.fields.items) l)
         (same_by (explained_fields (status_for absent b.reason b.status)) (λ place parts. []) (λ place parts. refl))
 
     response_same : IsSameResponse r s
@@ -329,8 +305,7 @@ module _ (present : ℕ) (resource : Resource) (before : List Header) (site : Si
     )
 
 pub one_response : (now : Option ℕ) (left : ℕ) (site : Site) (look : List ℕ → Entry) (request : Request (List ℕ))
-    (r s : Response) (a b : Option Source)
-    → IsAnswerAt now left site (λ path entry. entry ≡ look path) request r a
+    (r s : Response) (a b : Option Source) → IsAnswerAt now left site (λ path entry. entry ≡ look path) request r a
     → IsAnswerAt now left site (λ path entry. entry ≡ look path) request s b → IsSameResponse r s
 one_response now left site look request r s a b x y =
     let divider : List ℕ = string_bytes site.divider in
@@ -340,22 +315,15 @@ one_response now left site look request r s a b x y =
     let present : ℕ = clock now y.found.files.items in
     let described =
     subst (λ (l : List File). IsDescribed (clock now l) site.resource x.found x.resource) alike.files x.described in
-    let decided =
-    moves_decided present site.resource x.found y.found alike x.resource y.resource described y.described divider
-    y.found.files.items y.asked x.answer
+    let decided = moves_decided present site.resource x.found y.found alike x.resource y.resource described y.described
+    divider y.found.files.items y.asked x.answer
     (subst (λ (l : List File). Decides (clock now l) divider l x.resource y.asked x.answer) alike.files
     (subst (λ (q : Asked). Decides (clock now x.found.files.items) divider x.found.files.items x.resource q x.answer)
     asked x.decides)) in
-    let one =
-    decided_once present divider y.found.files.items y.resource y.asked x.answer y.answer decided y.decides in
+    let one = decided_once present divider y.found.files.items y.resource y.asked x.answer y.answer decided y.decides in
     response_same present y.resource (first_fields now left) site y.found.files.items y.found.status x.answer y.answer
-    one r s
-    (subst
-    (λ (n : ℕ).
+    one r s (subst (λ (n : ℕ).
     Carries (first_fields now left) site y.found.files.items (status_for n x.answer.reason x.answer.status)
-    x.answer.sends (encoded_fields x.answer.fields.items) r) alike.status
-    (subst
-    (λ (l : List File).
+    x.answer.sends (encoded_fields x.answer.fields.items) r) alike.status (subst (λ (l : List File).
     Carries (first_fields now left) site l (status_for x.found.status x.answer.reason x.answer.status)
-    x.answer.sends (encoded_fields x.answer.fields.items) r) alike.files x.carries))
-    y.carries
+    x.answer.sends (encoded_fields x.answer.fields.items) r) alike.files x.carries)) y.carries

@@ -37,13 +37,11 @@ OccursAt-from_slice content bytes a b k some h =
 
 no_part_holds : (content bytes : List ℕ) (part : Part) → ¬ (Occurs bytes content)
     → ¬ (Occurs bytes (part_bytes content part))
-no_part_holds content [] part none o =
-    none (0, record { fits = omega arith; reads = λ j within. absurd (omega arith) })
-no_part_holds content (byte ∷ bytes) part none o =
-    none (
-      part.first + o.0,
-      OccursAt-from_slice content (byte ∷ bytes) part.first (part.last + 1) o.0 (omega arith) o.1,
-    )
+no_part_holds content [] part none o = none (0, record { fits = omega arith; reads = λ j within. absurd (omega arith) })
+no_part_holds content (byte ∷ bytes) part none o = none (
+  part.first + o.0,
+  OccursAt-from_slice content (byte ∷ bytes) part.first (part.last + 1) o.0 (omega arith) o.1,
+)
 
 -- a HEAD has no parts
 head_has_none : (present : ℕ) (request : LineMap) (resource : Target) (len : ℕ) (limits : RangeLimits)
@@ -68,19 +66,15 @@ head_sends_none present resource asked (Planned place plan) h =
 head_sends_none present resource asked Perform h = refl
 
 pub no_part_holds_boundary : (present : ℕ) (divider : List ℕ) (files : List File) (resource : Resource)
-    (asked : Asked) (answer : Answer) (file : File) (kept : Kept)
-    → Decides present divider files resource asked answer → sends_several answer.sends ≡ true
-    → file_sent files answer.sends ≡ Some file → file.source ≡ InMemory kept
+    (asked : Asked) (answer : Answer) (file : File) (kept : Kept) → Decides present divider files resource asked answer
+    → sends_several answer.sends ≡ true → file_sent files answer.sends ≡ Some file → file.source ≡ InMemory kept
     → (part : Part) → ¬ (Occurs divider (part_bytes kept.content part))
-no_part_holds_boundary present divider files resource asked answer file kept h several sent memory part =
-    elim h [
-      | inl sendable ↦
-          no_part_holds kept.content divider part
-          (subst (λ (source : Source). ¬ (IsKnownToHold source divider)) memory
-          (subst (λ (of : Option File). ¬ (IsHeldBy divider of)) sent (sendable.0 several)))
-      | inr whole ↦
-          let none =
-          head_sends_none present resource asked answer.sends
-          (planned_in present resource (as_head asked) answer whole.3) in
-          absurd (cc (none, several))
-    ]
+no_part_holds_boundary present divider files resource asked answer file kept h several sent memory part = elim h [
+  | inl sendable ↦
+      no_part_holds kept.content divider part (subst (λ (source : Source). ¬ (IsKnownToHold source divider)) memory
+      (subst (λ (of : Option File). ¬ (IsHeldBy divider of)) sent (sendable.0 several)))
+  | inr whole ↦
+      let none = head_sends_none present resource asked answer.sends
+      (planned_in present resource (as_head asked) answer whole.3) in
+      absurd (cc (none, several))
+]

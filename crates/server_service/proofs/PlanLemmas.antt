@@ -14,10 +14,8 @@ by_parts of_plan several (part ∷ other ∷ parts) = several (part ∷ other �
 
 -- the same from its status and its parts
 abbrev by_status : {X : Type 0} → (Plan → X) → (List Part → X) → ℕ → List Part → X
-by_status of_plan several status parts =
-    if status == 200 then of_plan Full
-    else (if status == 304 then of_plan NotModified
-    else (if status == 412 then of_plan Failed
+by_status of_plan several status parts = if status == 200 then of_plan Full else
+    (if status == 304 then of_plan NotModified else (if status == 412 then of_plan Failed
     else (if status == 416 then of_plan Unsatisfiable else by_parts of_plan several parts)))
 
 by_parts-several : {X : Type 0} (of_plan : Plan → X) (several : List Part → X) (parts : List Part) → 1 < length parts
@@ -44,10 +42,8 @@ module _ (present : ℕ) (method : List ℕ) (request : LineMap) (resource : Tar
   pub same_by_plan : {X : Type 0} (of_plan : Plan → X) (several : List Part → X)
       → ((parts : _) → of_plan (Multiple parts) ≡ several parts.items) → (p q : Plan)
       → IsPlan present method request resource len limits p → IsPlan present method request resource len limits q
-      → IsSamePlan (Some p) (Some q)
-      → of_plan p ≡ of_plan q
-  same_by_plan of_plan several same_parts p q h k same =
-      goes_by_status of_plan several same_parts p h
+      → IsSamePlan (Some p) (Some q) → of_plan p ≡ of_plan q
+  same_by_plan of_plan several same_parts p q h k same = goes_by_status of_plan several same_parts p h
       ∙ ap (λ (status : ℕ). by_status of_plan several status (parts_sent p)) same.0
       ∙ ap (λ (parts : List Part). by_status of_plan several (status_of q) parts) same.1
       ∙ sym (goes_by_status of_plan several same_parts q k)

@@ -8,13 +8,11 @@ use Rattle.server_service.specs.{File.{Reads, gives_at}, declared.source.Source.
 module _ (content old new : List ℕ) (start count : ℕ) (counted : count ≡ min (length content - start) (length old))
     (copied : new ≡ take count (drop start content) ++ drop count old) where
   length_read : length (take count (drop start content)) ≡ count
-  length_read =
-      length-take-le count (drop start content)
+  length_read = length-take-le count (drop start content)
       (omega (arith, counted, min-le_left (length content - start) (length old), length-drop start content))
 
   read : take count new ≡ take count (drop start content)
-  read =
-      ap (take count) copied
+  read = ap (take count) copied
       ∙ take-append-le count (take count (drop start content)) (drop count old) (omega (arith, length_read))
       ∙ take_all count (take count (drop start content)) (omega (arith, length_read))
 
@@ -22,12 +20,11 @@ module _ (content old new : List ℕ) (start count : ℕ) (counted : count ≡ m
   read_len = sym length_read ∙ ap length (sym read)
 
   within : count ≤ length new
-  within =
-      omega (
-        arith,
-        length_read,
-        ap length copied ∙ length-append (take count (drop start content)) (drop count old),
-      )
+  within = omega (
+    arith,
+    length_read,
+    ap length copied ∙ length-append (take count (drop start content)) (drop count old),
+  )
 
 -- the buffer has what was read
 pub reads_at_most : {E : Type 0} (source : Source) (start : ℕ) (old new : List ℕ) (result : Result ℕ E)
@@ -42,8 +39,7 @@ reads_at_most (Opened opened) start old new result reads = reads
 -- it occurs in the file at that place
 pub reads_give : {E : Type 0} (source : Source) (start : ℕ) (old new : List ℕ) (result : Result ℕ E)
     → Reads source start old new result → IfOk result (λ count. gives_at source start (take count new))
-reads_give (Kept kept) start old new (Ok count) reads =
-    read kept.content old new start count reads.0 reads.1
+reads_give (Kept kept) start old new (Ok count) reads = read kept.content old new start count reads.0 reads.1
     ∙ ap (λ (n : ℕ). take n (drop start kept.content)) (read_len kept.content old new start count reads.0 reads.1)
 reads_give (Kept kept) start old new (Err error) reads = absurd reads
 reads_give (Opened opened) start old new (Ok count) reads = tt

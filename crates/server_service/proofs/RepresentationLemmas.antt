@@ -9,11 +9,10 @@ module _ (look : List ℕ → Entry) where
   Has path entry = entry ≡ look path
 
   stands_once : (path : List ℕ) (e f : Entry) → HasEntryAt Has path e → HasEntryAt Has path f → e ≡ f
-  stands_once path e f x y =
-      elim x [
-        | inl h ↦ elim y [ inl k ↦ h.1 ∙ sym k.1 | inr k ↦ let no = h.0 in let yes = k.0 in absurd (cc (no, yes)) ]
-        | inr h ↦ elim y [ inl k ↦ let no = h.0 in let yes = k.0 in absurd (cc (no, yes)) | inr k ↦ h.1 ∙ sym k.1 ]
-      ]
+  stands_once path e f x y = elim x [
+    | inl h ↦ elim y [ inl k ↦ h.1 ∙ sym k.1 | inr k ↦ let no = h.0 in let yes = k.0 in absurd (cc (no, yes)) ]
+    | inr h ↦ elim y [ inl k ↦ let no = h.0 in let yes = k.0 in absurd (cc (no, yes)) | inr k ↦ h.1 ∙ sym k.1 ]
+  ]
 
   offers_once : (path : List ℕ) (file : File) (a b : List File) → AreOffers Has path file a → AreOffers Has path file b
       → a ≡ b
@@ -21,11 +20,9 @@ module _ (look : List ℕ → Entry) where
       let brotli = stands_once (path ++ coding_suffix Brotli) h.brotli k.brotli h.has_brotli k.has_brotli in
       let gzip = stands_once (path ++ coding_suffix Gzip) h.gzip k.gzip h.has_gzip k.has_gzip in
       h.are
-      ∙ ap
-      (λ (e : Entry). (represented file.media_type Identity file ∷ offered file.media_type Brotli e)
+      ∙ ap (λ (e : Entry). (represented file.media_type Identity file ∷ offered file.media_type Brotli e)
       ++ offered file.media_type Gzip h.gzip) brotli
-      ∙ ap
-      (λ (e : Entry). (represented file.media_type Identity file ∷ offered file.media_type Brotli k.brotli)
+      ∙ ap (λ (e : Entry). (represented file.media_type Identity file ∷ offered file.media_type Brotli k.brotli)
       ++ offered file.media_type Gzip e) gzip
       ∙ sym k.are
 

@@ -124,8 +124,7 @@ quoted_ends opaque = ends_append (34 ∷ opaque) (34 ∷ []) refl
 
 pub tag_text_bare : (weak : Bool) (opaque : List ℕ)
     → is_bare (tag_text (record { is_weak = weak; opaque = opaque })) ≡ true
-tag_text_bare true opaque =
-    bare_by (87 ∷ 47 ∷ 34 ∷ (opaque ++ 34 ∷ [])) refl
+tag_text_bare true opaque = bare_by (87 ∷ 47 ∷ 34 ∷ (opaque ++ 34 ∷ [])) refl
     (ends_append (87 ∷ 47 ∷ []) (34 ∷ (opaque ++ 34 ∷ [])) (quoted_ends opaque))
 tag_text_bare false opaque = bare_by (34 ∷ (opaque ++ 34 ∷ [])) refl (quoted_ends opaque)
 
@@ -143,17 +142,14 @@ same_byte b = refl
 pub line_valid : (name value : List ℕ) → IsHeaderName name → IsFieldValue value → is_line (name, value) ≡ true
 line_valid name value named valid =
     let token = named.0.0 in
-    let bytes =
-    All-weaker (λ (b : ℕ). IsTrue (is_name_byte b)) (λ (b : ℕ). IsTrue (is_token_byte b))
+    let bytes = All-weaker (λ (b : ℕ). IsTrue (is_name_byte b)) (λ (b : ℕ). IsTrue (is_token_byte b))
     (λ b is. sym (same_byte b) ∙ is) name token.1 in
     and_from (is_token name) (is_field_value value)
     (and_from (nat_lt 0 (length name)) (list_all is_token_byte name) (lt-ltb 0 (length name) token.0)
-    (list_all-from_AllPass is_token_byte name bytes))
-    (list_all-from_AllPass is_value_byte value valid)
+    (list_all-from_AllPass is_token_byte name bytes)) (list_all-from_AllPass is_value_byte value valid)
 
 -- whatever its name is
-line_same : (kept : Bool) (line : Header) → trim line.1 ≡ line.1
-    → (if kept then line else (line.0, trim line.1)) ≡ line
+line_same : (kept : Bool) (line : Header) → trim line.1 ≡ line.1 → (if kept then line else (line.0, trim line.1)) ≡ line
 line_same true line same = refl
 line_same false line same = ap (λ (text : List ℕ). (line.0, text)) same
 

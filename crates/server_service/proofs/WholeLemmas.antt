@@ -83,8 +83,7 @@ module _ (negotiates : Bool) (present : ℕ) (fields : LineMap) (own : File) (al
   full = (
     validators_of present own,
     record {
-      performs =
-          unconditional present fields (current_of present own) get all.if_match all.if_none_match
+      performs = unconditional present fields (current_of present own) get all.if_match all.if_none_match
           all.if_modified_since all.if_unmodified_since;
       is_read = inl refl;
       is_current = refl;
@@ -96,16 +95,14 @@ module _ (negotiates : Bool) (present : ℕ) (fields : LineMap) (own : File) (al
   Plans plan = IsPlanned present get fields (current_of present own) (len_of own.source) (limits_of own.coding) plan
 
   same : (plan : Option Plan) → Plans plan → IsSamePlan plan (Some Full)
-  same plan h =
-      one_plan present get fields (current_of present own) (len_of own.source) (limits_of own.coding) plan (Some Full) h
-      full
+  same plan h = one_plan present get fields (current_of present own) (len_of own.source) (limits_of own.coding) plan
+      (Some Full) h full
 
   module _ (plan : Plan) (h : Plans (Some plan)) where
     by_plan : {X : Type 0} (of_plan : Plan → X) (several : List Part → X)
         → ((parts : _) → of_plan (Multiple parts) ≡ several parts.items) → of_plan plan ≡ of_plan Full
-    by_plan of_plan several same_parts =
-        same_by_plan present get fields (current_of present own) (len_of own.source) (limits_of own.coding) of_plan
-        several same_parts plan Full h full (same (Some plan) h)
+    by_plan of_plan several same_parts = same_by_plan present get fields (current_of present own) (len_of own.source)
+        (limits_of own.coding) of_plan several same_parts plan Full h full (same (Some plan) h)
 
     whole_plan : IsWholePlan own plan
     whole_plan = record {
@@ -138,12 +135,10 @@ score_top negotiation fields x media_type language coding =
     (fields (codes "accept-language")) language_offer in
     let coding_rank : ℕ = rank_by encoding_quality negotiation.coding (fields (codes "accept-encoding"))
     (Some (coding_of x)) in
-    let first : media_rank ≡ 1001 =
-    rank_top (quality_by media_type_says) negotiation.media_type (fields (codes "accept")) media_offer
-    (λ used. absurd (cc (used, media_type))) in
-    let second : language_rank ≡ 1001 =
-    rank_top (quality_by language_says) negotiation.language (fields (codes "accept-language")) language_offer
-    (λ used. absurd (cc (used, language))) in
+    let first : media_rank ≡ 1001 = rank_top (quality_by media_type_says) negotiation.media_type
+    (fields (codes "accept")) media_offer (λ used. absurd (cc (used, media_type))) in
+    let second : language_rank ≡ 1001 = rank_top (quality_by language_says) negotiation.language
+    (fields (codes "accept-language")) language_offer (λ used. absurd (cc (used, language))) in
     let third : coding_rank ≡ 1001 =
     rank_top encoding_quality negotiation.coding (fields (codes "accept-encoding")) (Some (coding_of x)) coding in
     ap (λ (n : ℕ). joined n language_rank coding_rank) first
@@ -153,67 +148,55 @@ score_top negotiation fields x media_type language coding =
 -- of things of one score the first is picked
 picks_first : {A : Type 0} (n : ℕ) (xs : List A) → 0 < n → Picks (λ (x : A). n) xs (first_place xs)
 picks_first n [] some = λ k other low. absurd (omega (arith, low))
-picks_first n (x ∷ xs) some =
-    record {
-      within = omega arith;
-      positive = λ other. some;
-      greatest = λ k other low. omega arith;
-      first = λ k other low. absurd (omega (arith, low));
-    }
+picks_first n (x ∷ xs) some = record {
+  within = omega arith;
+  positive = λ other. some;
+  greatest = λ k other low. omega arith;
+  first = λ k other low. absurd (omega (arith, low));
+}
 
 -- ---- the reason
 
 rule_found : (rules : List MethodRule) (rule : MethodRule) → rules ≡ rule ∷ [] → rule.method ≡ get
     → rule_for rules get ≡ Some rule
 unfolding rule_for
-rule_found rules rule e m =
-    ap (find (λ (r : MethodRule). bytes_eq r.method get)) e
+rule_found rules rule e m = ap (find (λ (r : MethodRule). bytes_eq r.method get)) e
     ∙ ap (λ (name : List ℕ). cond (bytes_eq name get) (Some rule) None) m
 
 abbrev reading : Protocol → Option Line → LineMap → Asked
-reading protocol authority fields =
-    record {
-      protocol = protocol;
-      method = get;
-      authority = authority;
-      content = Absent;
-      fields = fields;
-      denied = None;
-    }
+reading protocol authority fields = record {
+  protocol = protocol;
+  method = get;
+  authority = authority;
+  content = Absent;
+  fields = fields;
+  denied = None;
+}
 
 as_reading : (asked : Asked) → asked.method ≡ get → asked.content ≡ Absent → asked.denied ≡ None
     → asked ≡ reading asked.protocol asked.authority asked.fields
-as_reading asked method content admitted =
-    ap
-    (λ (m : List ℕ).
-    record {
-      protocol = asked.protocol;
-      method = m;
-      authority = asked.authority;
-      content = asked.content;
-      fields = asked.fields;
-      denied = asked.denied;
-    }) method
-    ∙ ap
-    (λ (c : RequestContent).
-    record {
-      protocol = asked.protocol;
-      method = get;
-      authority = asked.authority;
-      content = c;
-      fields = asked.fields;
-      denied = asked.denied;
-    }) content
-    ∙ ap
-    (λ (d : Option Denial).
-    record {
-      protocol = asked.protocol;
-      method = get;
-      authority = asked.authority;
-      content = Absent;
-      fields = asked.fields;
-      denied = d;
-    }) admitted
+as_reading asked method content admitted = ap (λ (m : List ℕ). record {
+  protocol = asked.protocol;
+  method = m;
+  authority = asked.authority;
+  content = asked.content;
+  fields = asked.fields;
+  denied = asked.denied;
+}) method ∙ ap (λ (c : RequestContent). record {
+  protocol = asked.protocol;
+  method = get;
+  authority = asked.authority;
+  content = c;
+  fields = asked.fields;
+  denied = asked.denied;
+}) content ∙ ap (λ (d : Option Denial). record {
+  protocol = asked.protocol;
+  method = get;
+  authority = asked.authority;
+  content = Absent;
+  fields = asked.fields;
+  denied = d;
+}) admitted
 
 -- what a read asks of the resource of a file
 record IsReadable (site : Resource) : Type 0 where
@@ -247,9 +230,7 @@ module _ (site : Resource) (is_site : IsReadable site) (v : Vec Representation)
 
   acceptable : is_unacceptable file asked ≡ false
   unfolding is_unacceptable
-  acceptable =
-      ap
-      (λ (strict : Bool). strict && (nat_lt 0 (length v.items)
+  acceptable = ap (λ (strict : Bool). strict && (nat_lt 0 (length v.items)
       && are_unacceptable site.negotiation fields v.items)) is_site.lenient
 
   no_options : (b : Bool) → (b && false) ≡ false
@@ -297,13 +278,11 @@ module _ (site : Resource) (is_site : IsReadable site) (v : Vec Representation)
 
     first_selected : (place : Option ℕ) → IsSelected file fields place → place ≡ Some 0
     first_selected place h =
-        let choice =
-        picks_one (λ (x : Representation). top) v.items h.choice (first_place v.items)
+        let choice = picks_one (λ (x : Representation). top) v.items h.choice (first_place v.items)
         (picks_alike (score site.negotiation fields) (λ x. top)
         (λ x. score_top site.negotiation fields x is_site.media_type is_site.language all.accept_encoding) v.items
         h.choice h.picks) (picks_first top v.items (lit< tt)) in
-        h.is ∙ ap (place_of v.items) choice
-        ∙ ap (λ (xs : List Representation). place_of xs (first_place xs)) items
+        h.is ∙ ap (place_of v.items) choice ∙ ap (λ (xs : List Representation). place_of xs (first_place xs)) items
 
     planned : (status : Option ℕ) (sent : Sends) (response : Option Planning)
         → IsAnswered present get fields (current_of present own) mine.content site.boundary response
@@ -315,8 +294,7 @@ module _ (site : Resource) (is_site : IsReadable site) (v : Vec Representation)
         record {
           plan = response.plan;
           admits = refl;
-          status =
-              same_status
+          status = same_status
               ∙ ap Some (h.status ∙ (same site.negotiation.coding present fields own all (Some response.plan) plan).0);
           sends = same_sent;
           whole = whole_plan site.negotiation.coding present fields own all response.plan plan;
@@ -326,8 +304,7 @@ module _ (site : Resource) (is_site : IsReadable site) (v : Vec Representation)
         → Goes present file asked status sent given → IsWhole own Admitted status sent
     goes_whole status sent given h =
         let place = first_selected h.place h.selected in
-        let goes : GoesOn present file asked (Some 0) (Some mine) status sent given =
-        subst
+        let goes : GoesOn present file asked (Some 0) (Some mine) status sent given = subst
         (λ (xs : List Representation). GoesOn present file asked (Some 0) (slice_get xs 0) status sent given) items
         (subst
         (λ (at : Option ℕ). GoesOn present file asked at (at_place v.items at) status sent given) place h.goes) in
@@ -351,22 +328,20 @@ module _ (site : Resource) (is_site : IsReadable site) (v : Vec Representation)
 
     decided_whole : (by : List ℕ) (files : List File) (answer : Answer) → Decides present by files file asked answer
         → IsWhole own answer.reason answer.status answer.sends
-    decided_whole by files answer x =
-        elim x [
-          | inl h ↦ answer_whole answer h.1
-          | inr h ↦
-              let whole = answer_whole h.0 h.2 in
-              let one = ap sends_several whole.sends ∙ whole.whole.one in
-              absurd (h.1 (λ several. absurd (cc (one, several))))
-        ]
+    decided_whole by files answer x = elim x [
+      | inl h ↦ answer_whole answer h.1
+      | inr h ↦
+          let whole = answer_whole h.0 h.2 in
+          let one = ap sends_several whole.sends ∙ whole.whole.one in
+          absurd (h.1 (λ several. absurd (cc (one, several))))
+    ]
 
     -- ---- an answer that does
 
     chosen : IsSelected file fields (Some 0)
     chosen = record {
       choice = first_place v.items;
-      picks =
-          picks_alike (λ (x : Representation). top) (score site.negotiation fields)
+      picks = picks_alike (λ (x : Representation). top) (score site.negotiation fields)
           (λ x. sym (score_top site.negotiation fields x is_site.media_type is_site.language all.accept_encoding))
           v.items (first_place v.items) (picks_first top v.items (lit< tt));
       is = sym (ap (λ (xs : List Representation). place_of xs (first_place xs)) items);
@@ -380,31 +355,26 @@ module _ (site : Resource) (is_site : IsReadable site) (v : Vec Representation)
 
     module _ (cors : site.cors ≡ None) (coding : site.negotiation.coding ≡ false) where
       no_vary : vary_lines file Admitted ≡ []
-      no_vary =
-          ap
+      no_vary = ap
           (λ (b : Bool). line_if b (codes "accept") ++ line_if site.negotiation.language (codes "accept-language")
           ++ line_if site.negotiation.coding (codes "accept-encoding")) is_site.media_type
-          ∙ ap
-          (λ (b : Bool). line_if b (codes "accept-language")
+          ∙ ap (λ (b : Bool). line_if b (codes "accept-language")
           ++ line_if site.negotiation.coding (codes "accept-encoding")) is_site.language
           ∙ ap (λ (b : Bool). line_if b (codes "accept-encoding")) coding
 
       given : (sent : Vec Encoded) × (fields_of sent.items ≡ whole_fields present own)
-      given =
-          made (whole_fields present own)
+      given = made (whole_fields present own)
           (fit-more _ (value_few _) (fit-more _ (omega arith) (fit-more _ (lines_few _ _) (fit-more _ (lines_few _ _)
           (fit-more _ (omega arith) (fit-more _ (omega arith) (fit-more _ (omega arith) (fit-more _ (omega arith)
           (fit-none 0))))))))) (omega arith)
 
       planned_fields : (sent : Vec Encoded) × (fields_of sent.items ≡ drop 2 (whole_fields present own))
-      planned_fields =
-          made (drop 2 (whole_fields present own))
+      planned_fields = made (drop 2 (whole_fields present own))
           (fit-more _ (lines_few _ _) (fit-more _ (lines_few _ _) (fit-more _ (omega arith) (fit-more _ (omega arith)
           (fit-more _ (omega arith) (fit-more _ (omega arith) (fit-none 0))))))) (omega arith)
 
       abbrev all_answer : Answer
-      all_answer =
-          record { reason = Admitted; status = Some 200; sends = Planned (Some 0) Full; fields = given.0 }
+      all_answer = record { reason = Admitted; status = Some 200; sends = Planned (Some 0) Full; fields = given.0 }
 
       all_answers : IsAnswer present file asked all_answer
       all_answers = record {
@@ -413,12 +383,9 @@ module _ (site : Resource) (is_site : IsReadable site) (v : Vec Representation)
         gives = record {
           place = Some 0;
           selected = chosen;
-          goes =
-              subst
-              (λ (xs : List Representation).
+          goes = subst (λ (xs : List Representation).
               GoesOn present file asked (Some 0) (slice_get xs 0) (Some 200) (Planned (Some 0) Full)
-              (whole_fields present own)) (sym items)
-              (record {
+              (whole_fields present own)) (sym items) (record {
                 response = Some (record { plan = Full; status = 200; fields = planned_fields.0 });
                 answered = record {
                   plan = full site.negotiation.coding present fields own all;
@@ -432,8 +399,7 @@ module _ (site : Resource) (is_site : IsReadable site) (v : Vec Representation)
         };
         shared = [];
         is_shared = subst (λ (p : Option Policy). IsShared p asked (vary_lines file Admitted) []) (sym cors) refl;
-        fields =
-            given.1 ∙ sym (ap (λ (l : List Line). (whole_fields present own ++ vary_fields l) ++ []) no_vary);
+        fields = given.1 ∙ sym (ap (λ (l : List Line). (whole_fields present own ++ vary_fields l) ++ []) no_vary);
       }
 
 -- ---- the response
@@ -448,8 +414,7 @@ record HasAll (own : Source) (response : Response) (source : Option Source) : Ty
 all_sent : (own : Source) (source : Option Source) (response : Response) (kept : Kept) (sent : List ℕ)
     → HasAll own response source → own ≡ InMemory kept → AreSent (gives_of source) response.pieces.items sent
     → sent ≡ kept.content
-all_sent own source response kept sent has memory h =
-    sent_whole kept sent
+all_sent own source response kept sent has memory h = sent_whole kept sent
     (subst (λ (s : Source). AreSent (gives_of (Some s)) (all_of s) sent) memory
     (subst (λ (s : Option Source). AreSent (gives_of s) (all_of own) sent) has.opens
     (subst (λ (l : List Piece). AreSent (gives_of source) l sent) has.pieces h)))
@@ -458,18 +423,15 @@ found_entry : (negotiates : Bool) (look : List ℕ → Entry) (request : Request
     (found : Found) → Names (uri_path (head_of request).uri) (Some named) → look named ≡ entry
     → LeadsTo negotiates (λ path entry. entry ≡ look path) (head_of request).uri found
     → FindsEntry negotiates (λ path entry. entry ≡ look path) (head_of request).uri named entry found
-found_entry negotiates look request named entry found names stands x =
-    elim x [
-      | inl h ↦
-          let same : h.0 ≡ named = h.1.is_named ∙ sym names.is_named in
-          let is : h.2.0 ≡ entry = h.2.1 ∙ ap look same ∙ stands in
-          subst
-          (λ (p : List ℕ). FindsEntry negotiates (λ path e. e ≡ look path) (head_of request).uri p entry found) same
-          (subst
-          (λ (e : Entry). FindsEntry negotiates (λ path o. o ≡ look path) (head_of request).uri h.0 e found) is
-          h.2.2)
-      | inr h ↦ absurd (h.0 named names)
-    ]
+found_entry negotiates look request named entry found names stands x = elim x [
+  | inl h ↦
+      let same : h.0 ≡ named = h.1.is_named ∙ sym names.is_named in
+      let is : h.2.0 ≡ entry = h.2.1 ∙ ap look same ∙ stands in
+      subst (λ (p : List ℕ). FindsEntry negotiates (λ path e. e ≡ look path) (head_of request).uri p entry found)
+      same (subst
+      (λ (e : Entry). FindsEntry negotiates (λ path o. o ≡ look path) (head_of request).uri h.0 e found) is h.2.2)
+  | inr h ↦ absurd (h.0 named names)
+]
 
 module _ (now : Option ℕ) (left : ℕ) (site : Site) (divider : List ℕ) (look : List ℕ → Entry)
     (request : Request (List ℕ)) (response : Response) (source : Option Source) (asked : Asked) where
@@ -491,65 +453,48 @@ module _ (now : Option ℕ) (left : ℕ) (site : Site) (divider : List ℕ) (loo
       let resource : x.resource ≡ record site.resource {
         state = Current;
         representations = described.representations;
-      } =
-      described.is
-      ∙ ap
-      (λ (s : State). record site.resource { state = s; representations = described.representations })
-      current in
-      let items =
-      described.are ∙ ap (map (representation_of present)) contents in
-      let whole =
-      decided_whole site.resource (readable divider site.resource is_site) described.representations asked.protocol
-      asked.authority asked.fields host own_host expects present own others
+      } = described.is
+      ∙ ap (λ (s : State). record site.resource { state = s; representations = described.representations }) current in
+      let items = described.are ∙ ap (map (representation_of present)) contents in
+      let whole = decided_whole site.resource (readable divider site.resource is_site) described.representations
+      asked.protocol asked.authority asked.fields host own_host expects present own others
       (subst (λ (f : LineMap). AsksForAll site.resource.negotiation.coding f) (sym asks.2.fields) all) items by
-      x.found.files.items x.answer
-      (subst
-      (λ (r : Resource).
+      x.found.files.items x.answer (subst (λ (r : Resource).
       Decides present by x.found.files.items r (reading asked.protocol asked.authority asked.fields) x.answer) resource
       (subst (λ (q : Asked). Decides present by x.found.files.items x.resource q x.answer) reads x.decides)) in
       let carries = x.carries in
-      let status =
-      ap (λ (r : Reason). status_for x.found.status r x.answer.status) whole.admits
+      let status = ap (λ (r : Reason). status_for x.found.status r x.answer.status) whole.admits
       ∙ ap (λ (s : Option ℕ). status_for x.found.status Admitted s) whole.status in
       record {
         status = carries.status ∙ status;
-        pieces =
-            carries.pieces
-            ∙ ap
-            (pieces_for by site.pages.items x.found.files.items
-            (status_for x.found.status x.answer.reason x.answer.status))
-            whole.sends
+        pieces = carries.pieces
+            ∙ ap (pieces_for by site.pages.items x.found.files.items
+            (status_for x.found.status x.answer.reason x.answer.status)) whole.sends
             ∙ ap (λ (l : List File). pieces_of by (slice_get l 0) whole.plan) contents
             ∙ whole.whole.pieces by;
-        opens =
-            x.opens
+        opens = x.opens
             ∙ ap (source_sent x.found.files.items) whole.sends
             ∙ ap (λ (l : List File). source_of (slice_get l 0)) contents;
       }
 
 pub get_whole : (now : Option ℕ) (left : ℕ) (site : Site) (divider : List ℕ) (look : List ℕ → Entry)
     (request : Request (List ℕ)) (named : List ℕ) (file : File) (response : Response) (source : Option Source)
-    (asked : Asked)
-    → IsSite divider site.resource → Asks request asked
+    (asked : Asked) → IsSite divider site.resource → Asks request asked
     → has_host asked.protocol (asked.fields (codes "host")) ≡ true → is_misdirected site.resource asked ≡ false
-    → has_known_expectation (asked.fields (codes "expect")) ≡ true
-    → (head_of request).method ≡ codes "GET"
+    → has_known_expectation (asked.fields (codes "expect")) ≡ true → (head_of request).method ≡ codes "GET"
     → Names (uri_path (head_of request).uri) (Some named) → look named ≡ Readable file
     → AsksForAll site.resource.negotiation.coding (lines_at (head_of request).headers)
-    → IsAnswerAt now left site (λ path entry. entry ≡ look path) request response source
-    → (response.status ≡ 200)
+    → IsAnswerAt now left site (λ path entry. entry ≡ look path) request response source → (response.status ≡ 200)
     × ((kept : Kept) (sent : List ℕ) → file.source ≡ InMemory kept
     → AreSent (gives_of source) response.pieces.items sent → sent ≡ kept.content)
 get_whole now left site divider look request named file response source asked is_site asks host own_host expects method
     names stands all x =
     let finds =
     found_entry site.resource.negotiation.coding look request named (Readable file) x.found names stands x.leads in
-    let contents =
-    contents_own site.resource.negotiation.coding (λ path entry. entry ≡ look path) named file x.found.files.items
-    finds.2 in
-    let has =
-    get_has_all now left site divider look request response source asked is_site asks host own_host expects method all x
-    contents.0 contents.1 finds.0 contents.2 in (
+    let contents = contents_own site.resource.negotiation.coding (λ path entry. entry ≡ look path) named file
+    x.found.files.items finds.2 in
+    let has = get_has_all now left site divider look request response source asked is_site asks host own_host expects
+    method all x contents.0 contents.1 finds.0 contents.2 in (
       has.status,
       λ kept sent memory. all_sent contents.0.source source response kept sent has (contents.3 ∙ memory),
     )
@@ -560,16 +505,13 @@ has_listing path listing found x slash = elim x [ inl h ↦ h.1 | inr h ↦ let 
 
 pub get_listing : (now : Option ℕ) (left : ℕ) (site : Site) (divider : List ℕ) (look : List ℕ → Entry)
     (request : Request (List ℕ)) (named : List ℕ) (listing : Listing) (response : Response)
-    (source : Option Source) (asked : Asked)
-    → IsSite divider site.resource → Asks request asked
+    (source : Option Source) (asked : Asked) → IsSite divider site.resource → Asks request asked
     → has_host asked.protocol (asked.fields (codes "host")) ≡ true → is_misdirected site.resource asked ≡ false
-    → has_known_expectation (asked.fields (codes "expect")) ≡ true
-    → (head_of request).method ≡ codes "GET"
+    → has_known_expectation (asked.fields (codes "expect")) ≡ true → (head_of request).method ≡ codes "GET"
     → Names (uri_path (head_of request).uri) (Some named) → look named ≡ Listed listing
     → ends_in_slash (uri_path (head_of request).uri) ≡ true
     → AsksForAll site.resource.negotiation.coding (lines_at (head_of request).headers)
-    → IsAnswerAt now left site (λ path entry. entry ≡ look path) request response source
-    → (response.status ≡ 200)
+    → IsAnswerAt now left site (λ path entry. entry ≡ look path) request response source → (response.status ≡ 200)
     × ((sent : List ℕ) → AreSent (gives_of source) response.pieces.items sent
     → sent ≡ listing_page (string_bytes listing.folder) (map string_bytes listing.names.items))
 get_listing now left site divider look request named listing response source asked is_site asks host own_host expects
@@ -577,9 +519,8 @@ get_listing now left site divider look request named listing response source ask
     let finds =
     found_entry site.resource.negotiation.coding look request named (Listed listing) x.found names stands x.leads in
     let lists = has_listing (uri_path (head_of request).uri) listing x.found finds.1 slash in
-    let has =
-    get_has_all now left site divider look request response source asked is_site asks host own_host expects method all x
-    (listed_file listing) [] lists.state lists.files in (
+    let has = get_has_all now left site divider look request response source asked is_site asks host own_host expects
+    method all x (listed_file listing) [] lists.state lists.files in (
       has.status,
       λ sent h. all_sent (InMemory listing.page) source response listing.page sent has refl h ∙ listing.is_page,
     )
@@ -611,20 +552,14 @@ module _ (now : Option ℕ) (left present : ℕ) (site : Site) (has : List ℕ �
       } in
       let all : AsksForAll site.resource.negotiation.coding asked.fields =
       subst (λ (b : Bool). AsksForAll b asked.fields) (sym plain.coding) gets.asks.all in
-      let own_host =
-      ap
-      (λ (hosts : Option (Vec FieldValue)).
-      option_map_or
+      let own_host = ap (λ (hosts : Option (Vec FieldValue)). option_map_or
       (λ (own : Vec FieldValue). not (is_own own.items (host_named asked.authority (asked.fields (codes "host")))))
       hosts false) plain.hosts in
-      let answer : Answer =
-      all_answer site.resource is_read v asked.protocol asked.authority asked.fields gets.asks.host own_host
-      gets.asks.expects present own [] all refl plain.cors plain.coding in
-      let answers =
-      all_answers site.resource is_read v asked.protocol asked.authority asked.fields gets.asks.host own_host
-      gets.asks.expects present own [] all refl plain.cors plain.coding in
-      let fields =
-      given site.resource is_read v asked.protocol asked.authority asked.fields gets.asks.host own_host
+      let answer : Answer = all_answer site.resource is_read v asked.protocol asked.authority asked.fields
+      gets.asks.host own_host gets.asks.expects present own [] all refl plain.cors plain.coding in
+      let answers = all_answers site.resource is_read v asked.protocol asked.authority asked.fields gets.asks.host
+      own_host gets.asks.expects present own [] all refl plain.cors plain.coding in
+      let fields = given site.resource is_read v asked.protocol asked.authority asked.fields gets.asks.host own_host
       gets.asks.expects present own [] all refl plain.cors plain.coding in
       let resource : Resource = record site.resource { state = Current; representations = v } in
       let by : List ℕ = string_bytes site.divider in
@@ -634,22 +569,18 @@ module _ (now : Option ℕ) (left present : ℕ) (site : Site) (has : List ℕ �
         resource = resource;
         described = record {
           representations = v;
-          are =
-              ap (λ (t : ℕ). representation_of t own ∷ []) time
+          are = ap (λ (t : ℕ). representation_of t own ∷ []) time
               ∙ sym (ap (map (representation_of (clock now found.files.items))) gets.files);
-          is =
-              ap (λ (s : State). record site.resource { state = s; representations = v }) (sym gets.state);
+          is = ap (λ (s : State). record site.resource { state = s; representations = v }) (sym gets.state);
         };
         asked = asked;
         asks = asks;
         answer = answer;
-        decides =
-            subst (λ (t : ℕ). Decides t by found.files.items resource asked answer) time
+        decides = subst (λ (t : ℕ). Decides t by found.files.items resource asked answer) time
             (subst (λ (q : Asked). Decides present by found.files.items resource q answer)
             (sym (as_reading asked gets.asks.method asks.2.content asks.2.admitted))
             (inl (sendable by found.files.items, answers)));
-        carries =
-            subst (Sent found.files.items) (sym fields.1)
+        carries = subst (Sent found.files.items) (sym fields.1)
             (subst (λ (l : List File). Sent l (whole_fields present own)) (sym gets.files) carries);
         opens = opens;
       }

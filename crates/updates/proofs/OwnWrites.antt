@@ -26,8 +26,7 @@ AreBelow vs l = (v : Version) → Has vs v → v.number ≤ l
 
 -- where nothing was removed since, the floor of a hop that was passed is no higher
 abbrev pub HopsBelow : World → Floors → List Hop → ℕ → Type 0
-HopsBelow w floor hops l =
-    (hop : Hop) → Has hops hop → hop.removals ≡ (w.nodes hop.node).removals → floor hop.node ≤ l
+HopsBelow w floor hops l = (hop : Hop) → Has hops hop → hop.removals ≡ (w.nodes hop.node).removals → floor hop.node ≤ l
 
 abbrev pub known : Request → List Version
 known (Get client written) = written
@@ -48,8 +47,7 @@ Bounded routes w floor left request (Status204 v) =
 Bounded routes w floor left request other = ⊤
 
 abbrev pub Placed : Routes → World → Floors → Message → Type 0
-Placed routes w floor (Going passed request) =
-    IsWay routes w floor request passed
+Placed routes w floor (Going passed request) = IsWay routes w floor request passed
     × AreBelow (known request) (level w floor (next_after routes (client_of request) passed))
     × HopsBelow w floor passed (level w floor (next_after routes (client_of request) passed))
 Placed routes w floor (Coming left request response) =
@@ -102,8 +100,7 @@ module _ (routes : Routes) {w v : World} {floor above : Floors} (rises : Rises w
   hops-rise : (request : Request) (hops : List Hop) (l m : ℕ) → IsWay routes w floor request hops → l ≤ m
       → HopsBelow w floor hops l → HopsBelow v above hops m
   hops-rise request [] l m way more below = λ hop none. absurd none
-  hops-rise request (first ∷ hops) l m way more below =
-      each-cons first hops (λ same.
+  hops-rise request (first ∷ hops) l m way more below = each-cons first hops (λ same.
       let grow = rises.removals first.node in
       let before : first.removals ≡ (w.nodes first.node).removals = omega (arith, way.2, grow, same) in
       le_trans (rises.same first.node (sym before ∙ same)) (le_trans (below first (inl refl) before) more))
@@ -191,24 +188,22 @@ module _ {routes : Routes} {w : World} {floor : Floors} (ordered : Ordered route
 
   -- a gateway or a cache changes, and its floor rises
   rises-at : (at l : ℕ) (node : Node) → (w.nodes at).removals ≤ node.removals
-      → ((w.nodes at).removals ≡ node.removals → l ≤ floor at)
-      → Rises w floor (with_node at node w) (raised floor at l)
+      → ((w.nodes at).removals ≡ node.removals → l ≤ floor at) → Rises w floor (with_node at node w) (raised floor at l)
   rises-at at l node more same = grind arith
 
   turned-ordered : (at l : ℕ) (node : Node) → Rises w floor (with_node at node w) (raised floor at l)
       → l ≤ level w floor (routes.next at)
       → ((k : ℕ) → IfFound (λ v. max (floor at) l ≤ v.number) (slice_get node.stored k))
       → Ordered routes (with_node at node w) (raised floor at l)
-  turned-ordered at l node rises below stored =
-      record {
-        nodes = λ n. le_trans (there (λ k b. cond b (max (floor at) l) (floor k) ≤ level w floor (routes.next k)) n at
-            (max-le (ordered.nodes at) below) (ordered.nodes n)) (rises.levels (routes.next n));
-        own = λ client v has. le_trans (ordered.own client v has) (rises.levels (routes.first client));
-        stored = λ n. there (λ k b. (j : ℕ) → IfFound (λ v. cond b (max (floor at) l) (floor k) ≤ v.number)
-            (slice_get (cond b node (w.nodes k)).stored j)) n at stored (ordered.stored n);
-        messages = λ k. found-rises routes rises _ (ordered.messages k);
-        received = ordered.received;
-      }
+  turned-ordered at l node rises below stored = record {
+    nodes = λ n. le_trans (there (λ k b. cond b (max (floor at) l) (floor k) ≤ level w floor (routes.next k)) n at
+        (max-le (ordered.nodes at) below) (ordered.nodes n)) (rises.levels (routes.next n));
+    own = λ client v has. le_trans (ordered.own client v has) (rises.levels (routes.first client));
+    stored = λ n. there (λ k b. (j : ℕ) → IfFound (λ v. cond b (max (floor at) l) (floor k) ≤ v.number)
+        (slice_get (cond b node (w.nodes k)).stored j)) n at stored (ordered.stored n);
+    messages = λ k. found-rises routes rises _ (ordered.messages k);
+    received = ordered.received;
+  }
 
   -- what isn't a 204 leaves the floors
   passes : (hop : Hop) (left : List Hop) (request : Request) (response : Response) (removes stores : Bool)
@@ -233,8 +228,7 @@ module _ {routes : Routes} {w : World} {floor : Floors} (ordered : Ordered route
   confirms hop left request v stores placed =
       let rises = rises-at hop.node v.number (after_removing true (w.nodes hop.node)) (omega arith)
       (λ e. absurd (omega (arith, e))) in
-      sends-ordered (turned-ordered hop.node v.number _ rises placed.1 (λ k. grind arith))
-      _ (
+      sends-ordered (turned-ordered hop.node v.number _ rises placed.1 (λ k. grind arith)) _ (
         way-rises routes rises request left placed.0.3,
         rw (placed.0.0, eq-eqb hop.node hop.node refl) (le-max_right _ _),
       )
@@ -276,9 +270,8 @@ pub run-ordered : (routes : Routes) (events : List Event) (w : World) → Throug
     → Throughout Invalidates events w → Throughout StoresNoneFromBefore events w → IsOrdered routes w
     → IsOrdered routes (run events w)
 run-ordered routes [] w routed inv timely ordered = ordered
-run-ordered routes (event ∷ events) w routed inv timely (floor, ordered) =
-    run-ordered routes events (happens w event) routed.1 inv.1 timely.1
-    (acts-ordered ordered event _ routed.0 inv.0 timely.0 (grind (arith, ordered.messages)))
+run-ordered routes (event ∷ events) w routed inv timely (floor, ordered) = run-ordered routes events (happens w event)
+    routed.1 inv.1 timely.1 (acts-ordered ordered event _ routed.0 inv.0 timely.0 (grind (arith, ordered.messages)))
 
 -- at the start nothing is below the first version but itself
 pub start-ordered : (routes : Routes) (first : Version) → IsOrdered routes (start first)

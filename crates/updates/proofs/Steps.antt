@@ -34,8 +34,7 @@ IsDone w change =
 -- each change replaced what the one before made
 abbrev pub Links : Version → List Change → Version → Type 0
 Links first [] current = current ≡ first
-Links first (change ∷ earlier) current =
-    (change.made ≡ current) × (change.made.number ≡ suc change.replaced.number)
+Links first (change ∷ earlier) current = (change.made ≡ current) × (change.made.number ≡ suc change.replaced.number)
     × (change.made.content ≡ change.put.content) × Links first earlier change.replaced
 
 pub record Holds (first : Version) (w : World) : Type 0 where

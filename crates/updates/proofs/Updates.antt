@@ -9,9 +9,8 @@ use Rattle.updates.proofs.{Lists.Has_map, Steps.{Holds, Links}}
 among : (client : ℕ) (received : List Received) (v : Version) → Has (given client received) v
     → (one : Received) × Has received one × Has (shown one.response) v
 among client [] v has = absurd has
-among client (one ∷ earlier) v has =
-    elim (Has_append (cond (nat_eq (client_of one.request) client) (shown one.response) [])
-    (given client earlier) v has) [
+among client (one ∷ earlier) v has = elim
+    (Has_append (cond (nat_eq (client_of one.request) client) (shown one.response) []) (given client earlier) v has) [
       | inl here ↦ (one, inl refl, grind (arith, here))
       | inr later ↦ let on = among client earlier v later in (on.0, inr on.1, on.2)
     ]

@@ -55,8 +55,7 @@ module _ (P : ℕ → ℕ → Type 0) where
             (omega (arith, within, before))
         | inr b ↦ elim (get-append new (drop back own) b.0 byte b.2) [
           | inl c ↦
-              at (other.first + b.0) (min one.first other.first + i) byte (came b.0 byte c)
-              (omega (arith, b.1, before))
+              at (other.first + b.0) (min one.first other.first + i) byte (came b.0 byte c) (omega (arith, b.1, before))
           | inr d ↦
               let e = get-drop back own d.0 byte d.2 in
               at (one.first + e.0) (min one.first other.first + i) byte (old e.0 byte e.2)

@@ -32,8 +32,7 @@ pub fresh_too_small : (stored came head fresh : StoredResponse) (reception : Rec
     head → exchange ≡ exchange_of came → changes ≡ extent_fields (joint own other) → IsFreshened head (fields_of_stored
     came) exchange fresh → IsTooSmallFor fresh.response changes → IsTooSmallToCombine stored came reception
 fresh_too_small stored came head fresh reception own other exchange changes may is_head is_exchange is_changes by
-    small =
-    inr (
+    small = inr (
       own,
       other,
       with_content_of stored fresh,
@@ -72,8 +71,7 @@ module _ (policy : Policy) (stored came head fresh combined : StoredResponse) (r
   reusable-before is = (
     subst (λ (r : Entries FieldValue). IsForOthers policy (lines_at r) (fields_of_stored came)) (sym is_head.response)
         is.0,
-    subst (λ (r : Request). MayBeReused policy r (fields_of_stored came) fresh) (sym is_request)
-        (assumption is.1),
+    subst (λ (r : Request). MayBeReused policy r (fields_of_stored came) fresh) (sym is_request) (assumption is.1),
   )
 
   pub reusable : IsReusable policy (fields_of_stored head) request (fields_of_stored came) fresh

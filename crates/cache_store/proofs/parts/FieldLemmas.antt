@@ -20,8 +20,7 @@ use Rattle.headers_ranges.specs.ContentRangeLaws.{content_read}
 -- a field of a stored response is as it came, or isn't there
 stays_or_goes : (received : ℕ) (given stored : LineMap) → IsAsStored received given stored → (name : List ℕ)
     → name ≢ codes "date" → (stored name ≡ given name) ⊎ (stored name ≡ [])
-stays_or_goes received given stored is name differ =
-    (elim (is_hop_by_hop true (connection_options given) name) as
+stays_or_goes received given stored is name differ = (elim (is_hop_by_hop true (connection_options given) name) as
     (λ b. is_hop_by_hop true (connection_options given) name ≡ b → (stored name ≡ given name) ⊎ (stored name ≡ [])) [
       | true ↦ λ hop. inr (is.hop_by_hop name hop differ)
       | false ↦ λ no. inl (is.end_to_end name (λ hop. grind (arith, no, hop)) differ)
@@ -138,8 +137,7 @@ recorded_lines extent = if is_whole extent then [] else range_line extent ∷ []
 
 pub recorded-says : (fields : LineMap) (extent own : Extent) (count : ℕ) → IsPartOf extent count
     → fields (codes "content-range") ≡ recorded_lines extent → extent_in fields ≡ Some own → own ≡ extent
-recorded-says fields extent own count is lines h =
-    (elim (is_whole extent) as
+recorded-says fields extent own count is lines h = (elim (is_whole extent) as
     (λ b. fields (codes "content-range") ≡ cond b [] (range_line extent ∷ []) → own ≡ extent) [
       | true ↦ λ l. absurd (none-some own (ap extent_by_lines (sym l) ∙ h))
       | false ↦ λ l. line_says extent own count is (ap extent_by_lines (sym l) ∙ h)
@@ -169,8 +167,7 @@ part_of_count Incomplete count sent extent is h =
     let both = and_parts (nat_lt 0 count) (nat_le count (size sent)) some.0 in
     let positive : 0 < count = grind (arith, both.0, nat_tests) in
     let fewer : count ≤ sent.last + 1 - sent.first = grind (arith, both.1, nat_tests) in
-    subst (λ (e : Extent). IsPartOf e count) some.1
-    (record {
+    subst (λ (e : Extent). IsPartOf e count) some.1 (record {
       ordered = omega (arith, positive);
       within = omega (arith, positive, fewer, is.ordered, is.within);
       small = is.small;
@@ -188,8 +185,7 @@ part_of_whole Incomplete count len extent h =
     let positive : 0 < count = grind (arith, one.0, nat_tests) in
     let fewer : count < len = grind (arith, two.0, nat_tests) in
     let low : len < 2 ^ 64 = grind (arith, two.1, nat_tests) in
-    subst (λ (e : Extent). IsPartOf e count) some.1
-    (record {
+    subst (λ (e : Extent). IsPartOf e count) some.1 (record {
       ordered = omega arith;
       within = omega (arith, positive, fewer);
       small = low;

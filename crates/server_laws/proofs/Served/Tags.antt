@@ -477,7 +477,8 @@ module _ (name : List ℕ) where
       let decides = bytes_eq-Decides field.0 name in
       let other = lines_unless-other name (is_named field.0 fields) field.0 field.1 in
       let same = lines_of_same name field.0 field.1 in
-      set_all-sent (set m field) fields ∙ grind (arith, other, same, sent-none name true fields, append-nil, lines_in-append name)
+      set_all-sent (set m field) fields
+      ∙ grind (arith, other, same, sent-none name true fields, append-nil, lines_in-append name)
 
   sent_as_set : (fields : List Field) → lines_in (headers_set fields) name ≡ set_all nothing fields name
   sent_as_set fields = grind (arith, set_all-sent nothing fields, sent-none name true fields)

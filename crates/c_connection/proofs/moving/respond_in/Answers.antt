@@ -4,8 +4,7 @@ use Rattle.c_connection.proofs.moving.respond_in.Goals as goal
 
 pub returns : goal.returns
 returns c = (
-  λ before now planned.
-      c.respond.ensures before now
+  λ before now planned. c.respond.ensures before now
       (subst (λ (plan : ResponsePlan). host_plans before c.args.held.now.connection.machine.request plan now)
       (sym c.replace-plan.ensures.value) planned),
   refl,

@@ -30,14 +30,12 @@ returns-then-count-offered c = (
         (subst (λ (bytes : List ℕ). length bytes ≡ 0) w.output.ensures none)
         (subst (λ (n : ℕ). n < c.args.count) w.offered-is c.if-count-offered.true)
     | in_default w ↦
-        more_than_output c.args.held.now.connection.machine c.args.count
-        (elim w.in_default.branch [
+        more_than_output c.args.held.now.connection.machine c.args.count (elim w.in_default.branch [
           | in_default-via-in-Some+else-is_empty v ↦ λ empty extent next.
               let filled : 0 < length v.output.result.now =
               grind (arith, nat_tests, v.is_empty.ensures, v.if-is_empty.false) in
               omega (arith, filled, ap length v.output.ensures, ap length empty)
           | in_default-via-in_default v ↦ λ empty. v.in_default.ensures.none
-        ])
-        (omega (arith, c.if-count-offered.true, w.offered-is, ap length w.output-in_default.ensures))
+        ]) (omega (arith, c.if-count-offered.true, w.offered-is, ap length w.output-in_default.ensures))
   ],
 )

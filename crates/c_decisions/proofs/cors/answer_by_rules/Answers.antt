@@ -11,6 +11,5 @@ Shares-from_policy given policy request response (Ok shared) is by = (policy, is
 Shares-from_policy given policy request response (Err failure) is by = inr by
 
 pub returns : goal.returns
-returns c =
-    Shares-from_policy c.args.rules.now c.in_ok-policy.policy c.args.request.now c.args.response.now
+returns c = Shares-from_policy c.args.rules.now c.in_ok-policy.policy c.args.request.now c.args.response.now
     c.answer_by.result c.in_ok-policy.ensures c.answer_by.ensures

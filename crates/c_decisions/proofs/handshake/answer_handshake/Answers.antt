@@ -8,8 +8,7 @@ returns-in_err-show c =
     let answer = c.from_residual-in_err-show in
     let error = err_from_is_err_and answer.result answer.ensures.1 in
     let is : answer.result ≡ Err Memory = cc (error.1, error.2) in
-    subst (AnswersHandshake c.args.request.now c.args.version c.args.rules.now) (sym is)
-    (inr (inr (inr (inr (inr (
+    subst (AnswersHandshake c.args.request.now c.args.version c.args.rules.now) (sym is) (inr (inr (inr (inr (inr (
       refl,
       record {
         is_method = method.0;
@@ -21,11 +20,10 @@ returns-in_err-show c =
         are_allowed = c.in_ok-origins.ensures;
         fields = c.in_ok-fields.fields;
         holds = c.in_ok-fields.ensures;
-        has_fields =
-            inr (
-              c.in_ok-answer.answer,
-              rw (method.1, c.as_slice.ensures.value) at c.in_ok-answer.ensures.answer,
-              c.in_err-show.ensures.memory refl,
-            );
+        has_fields = inr (
+          c.in_ok-answer.answer,
+          rw (method.1, c.as_slice.ensures.value) at c.in_ok-answer.ensures.answer,
+          c.in_err-show.ensures.memory refl,
+        );
       },
     ))))))

@@ -16,7 +16,6 @@ returns-in_err-values g c =
     let error = err_from_is_err_and answer.result answer.ensures.1 in
     let is : answer.result ≡ Err failure = cc (error.1, error.2) in
     subst (FindsOfText g.T.Listed.reads c.args.text.now) (sym is)
-    (Allows-fails g.T.Listed.reads c.args.text.now (lines_of values) read.0 none failure
-    (subst
+    (Allows-fails g.T.Listed.reads c.args.text.now (lines_of values) read.0 none failure (subst
     (λ (all : List FieldValue). Finds (HasLine (lines_of all)) (ReadEach g.T.Listed.reads (lines_of all)) (Err failure))
     c.as_slice-2.ensures.value c.in_err-values.ensures))

@@ -4,8 +4,7 @@ use Rattle.c_decisions.{specs.Rules.{Finds, ReadEach}, proofs.RuleLemmas.{AllZip
 use Rattle.c_decisions.proofs.rules.read_each.Goals as goal
 
 pub loop-line-preserved : goal.loop-line-preserved
-loop-line-preserved g c =
-    rw c.in_ok-push.ensures.items
+loop-line-preserved g c = rw c.in_ok-push.ensures.items
     (AllZip-more g.T.Listed.reads c.args.lines.now c.loop-line.line-index c.line-item.result c.loop-line.values.items
     c.in_ok-value.value c.loop-line-test.true c.line-item.is c.loop-line.invariant c.in_ok-value.ensures)
 

@@ -10,8 +10,7 @@ returns c =
     let ready = c.in_ok-tell.ensures in
     let given = c.in_ok-plan.ensures in
     let asks : connection.machine.phase ≡ Asking = search rules in
-    let answer =
-    subst
+    let answer = subst
     (λ (request : Request (List ℕ)). IsAnswer (λ time. time ≡ Some told.service.store.time) told.service.left
     told.service.site (λ path entry. entry ≡ entry_in told.service.store path) request c.plan.new.plan
     c.plan.new.self.source) c.request.ensures given.0 in

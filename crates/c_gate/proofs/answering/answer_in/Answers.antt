@@ -8,11 +8,8 @@ returns c = (
   (
     (
       c.answer.ensures.other,
-      λ asking.
-          subst
-          (λ (status : ℕ). (between : GatewayConnection) × Settles c.args.gate.now.connection between
-          × Answers between (Chosen status) c.answer.new.self)
-          c.in_ok-status.ensures.1 (c.answer.ensures.asked asking),
+      λ asking. subst (λ (status : ℕ). (between : GatewayConnection) × Settles c.args.gate.now.connection between
+          × Answers between (Chosen status) c.answer.new.self) c.in_ok-status.ensures.1 (c.answer.ensures.asked asking),
     ),
     refl,
   ),

@@ -13,16 +13,12 @@ returns-in-Err c =
       error,
       c.failure_of.ensures,
       (
-        subst
-            (λ (lines : List Header). RefusesGiving old status (reason_of status) lines
-            (size_of old.asked status c.args.length) error new) same
-            (subst
+        subst (λ (lines : List Header). RefusesGiving old status (reason_of status) lines
+            (size_of old.asked status c.args.length) error new) same (subst
             (λ (reason : List ℕ). RefusesGiving old status reason (pairs c.args.lines.now)
-            (size_of old.asked status c.args.length) error new) c.reason_of.ensures
-            (subst
+            (size_of old.asked status c.args.length) error new) c.reason_of.ensures (subst
             (λ (size : BodySize). RefusesGiving old status c.reason_of.result.now (pairs c.args.lines.now) size error
-            new)
-            c.size_of-size.ensures c.in-Err.ensures)),
+            new) c.size_of-size.ensures c.in-Err.ensures)),
         refl,
       ),
     )

@@ -10,10 +10,8 @@ returns c =
       fields,
       c.in_ok-fields.ensures,
       (
-        subst
-            (λ (since : Option FieldValue). Conditions (get fields (codes "if-none-match")) since old new)
-            c.in_ok-since.ensures
-            (subst (λ (etags : Option FieldValue). Conditions etags c.in_ok-since.since old new)
+        subst (λ (since : Option FieldValue). Conditions (get fields (codes "if-none-match")) since old new)
+            c.in_ok-since.ensures (subst (λ (etags : Option FieldValue). Conditions etags c.in_ok-since.since old new)
             c.in_ok-etags.ensures c.in_ok-set_conditions.ensures.ok),
         refl,
       ),

@@ -10,5 +10,4 @@ returns c =
     let taken : OnGate IsTaken old new (Ok origin) = search rules in
     let after = c.put_origin.new.handle.held in
     subst (λ (before : Option Held). TakesOver old new before after c.put_origin.result)
-    (sym c.in_default.ensures.taken)
-    (taken_over old new origin after c.put_origin.result taken c.put_origin.ensures)
+    (sym c.in_default.ensures.taken) (taken_over old new origin after c.put_origin.result taken c.put_origin.ensures)

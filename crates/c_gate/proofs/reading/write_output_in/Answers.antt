@@ -6,9 +6,7 @@ use Rattle.c_gate.proofs.reading.write_output_in.Goals as goal
 pub returns-in-None : goal.returns-in-None
 returns-in-None c = (
   Err Absent,
-  subst
-      (λ (waiting : Option (List ℕ × List ℕ)).
-      OnHeld (IsFront c.args.side (length c.args.room.now)) waiting (Err Absent))
-      c.in-None.ensures refl,
+  subst (λ (waiting : Option (List ℕ × List ℕ)).
+      OnHeld (IsFront c.args.side (length c.args.room.now)) waiting (Err Absent)) c.in-None.ensures refl,
   (c.status.ensures, refl, refl),
 )

@@ -4,6 +4,5 @@ use Rattle.gateway_messages.{specs.FieldLines.Field, specs.declared.field_line.F
 use Rattle.c_gateway.proofs.lines.lines_text.Goals as goal
 
 pub returns : goal.returns
-returns c =
-    rw (flat_map-map (λ (field : Field). line_text field.0 field.1)
+returns c = rw (flat_map-map (λ (field : Field). line_text field.0 field.1)
     (λ (field : FieldLine). (field.name, field.value.bytes)) c.args.fields.now) (grind (arith, common_steps))

@@ -15,8 +15,7 @@ loop-line-preserved c =
     let name = rw c.as_bytes.ensures.value at c.in_ok-read_name.ensures in
     record {
       are_names = All-more IsFieldName before after line.bytes next c.loop-line.invariant.are_names name.0;
-      names =
-          rw (c.in_ok-push.ensures.items, name.1)
+      names = rw (c.in_ok-push.ensures.items, name.1)
           (names-more lowercase before after line.bytes c.loop-line.names.items next c.loop-line.invariant.names);
     }
 

@@ -9,15 +9,13 @@ returns-in_err-step_of c =
     let answer = c.from_residual-in_err-step_of in
     let error = err_from_is_err_and answer.result answer.ensures.1 in
     let is : answer.result ≡ Err Memory = cc (error.1, error.2) in
-    subst
-    (PassesRequest c.args.gateway.now c.args.hop.now c.args.request.now c.args.version c.args.authority.now)
+    subst (PassesRequest c.args.gateway.now c.args.hop.now c.args.request.now c.args.version c.args.authority.now)
     (sym is) (inl (inl c.in_ok-gateway.ensures.0.0))
 
 pub returns : goal.returns
 returns c =
     let method = c.in_ok-method.ensures in
-    let step =
-    rw (method.1, bytes_copied c.as_ref.result c.in_ok-authority.authority c.as_ref.ensures.value) at
+    let step = rw (method.1, bytes_copied c.as_ref.result c.in_ok-authority.authority c.as_ref.ensures.value) at
     c.in_ok-step_of.ensures in
     record {
       gateway = c.in_ok-gateway.gateway;

@@ -2,11 +2,8 @@ use Rattle.std.proofs.lemmas.Result.{IfOk-weaker}
 use Rattle.c_gateway.proofs.request.step_of.Goals as goal
 
 pub returns : goal.returns
-returns c =
-    IfOk-weaker c.show.result _ _
-    (λ step shown. record {
-      outcome = c.in_ok-outcome.outcome;
-      is_outcome = c.in_ok-outcome.ensures;
-      is_shown = shown;
-    })
-    c.show.ensures
+returns c = IfOk-weaker c.show.result _ _ (λ step shown. record {
+  outcome = c.in_ok-outcome.outcome;
+  is_outcome = c.in_ok-outcome.ensures;
+  is_shown = shown;
+}) c.show.ensures

@@ -9,11 +9,7 @@ returns-then-has_credentials c long =
     let block_of : Option (Vec FieldValue Global) → Block = option_map (λ values. lines_of values.items) in
     let has : has_credentials c.args.name.now ≡ true = sym c.has_credentials.ensures ∙ c.if-has_credentials.true in
     let found = c.credentials_lines.result in
-    subst
-    (λ (lines : List Line). IfOk found (λ block. IsWrittenBlock c.args.name.now lines (block_of block)))
-    c.in_ok-values.ensures
-    (subst
-    (λ (values : List FieldValue). IfOk found (λ block.
-    IsWrittenBlock c.args.name.now (lines_of values) (block_of block)))
-    c.as_slice.ensures.value
+    subst (λ (lines : List Line). IfOk found (λ block. IsWrittenBlock c.args.name.now lines (block_of block)))
+    c.in_ok-values.ensures (subst (λ (values : List FieldValue). IfOk found (λ block.
+    IsWrittenBlock c.args.name.now (lines_of values) (block_of block))) c.as_slice.ensures.value
     (IfOk-written block_of found c.args.name.now (lines_of c.as_slice.result.now) has c.credentials_lines.ensures))

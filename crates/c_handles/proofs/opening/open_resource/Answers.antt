@@ -4,8 +4,7 @@ use Rattle.c_handles.proofs.OpenLemmas.{mapped, opened}
 use Rattle.c_handles.proofs.opening.open_resource.Goals as goal
 
 pub returns : goal.returns
-returns c =
-    opened (IsResourceHeld c.args.parts.now c.args.representations.now c.args.rules.now) c.map.result _ _ _
+returns c = opened (IsResourceHeld c.args.parts.now c.args.representations.now c.args.rules.now) c.map.result _ _ _
     (mapped (IsResourceAnswer c.args.parts.now c.args.representations.now c.args.rules.now)
     (IsResourceHeld c.args.parts.now c.args.representations.now c.args.rules.now) Resource c.read_resource-made.result
     c.map.result (λ value held says. search rules) (λ value is. is) (λ failure is. inl is)

@@ -13,10 +13,8 @@ returns-in-Ok c =
     let same : lines_of c.as_slice.result.now ≡ text = ap lines_of c.as_slice.ensures.value ∙ sym read.0 in
     let same_again : lines_of c.as_slice-in-Ok.result.now ≡ text =
     ap lines_of c.as_slice-in-Ok.ensures.value ∙ sym read.0 in
-    let directs =
-    subst (λ (lines : List Line). directives_of lines ≡ Some c.in-Ok.cache) same c.in-Ok.ensures.value in
-    let flag : c.has_flag.result ≡ is_set (codes "proxy-revalidate") (entries text) =
-    c.has_flag.ensures
+    let directs = subst (λ (lines : List Line). directives_of lines ≡ Some c.in-Ok.cache) same c.in-Ok.ensures.value in
+    let flag : c.has_flag.result ≡ is_set (codes "proxy-revalidate") (entries text) = c.has_flag.ensures
     ∙ ap (λ (lines : List Line). is_set (codes "proxy-revalidate") (entries lines)) same_again in
     let proxy = proxy_of text c.in-Ok.cache directs ∙ sym flag in
     (rw read.0 (has_values values some), (read.1, (c.in-Ok.cache, directs, c.shown.ensures proxy)))

@@ -7,7 +7,6 @@ returns-in-Ok c = (Ok c.in-Ok.read.0, c.in-Ok.ensures, (refl, refl))
 
 pub returns-in-Err : goal.returns-in-Err
 returns-in-Err c =
-    let says =
-    FieldDecodes-fails content_length_reads reads_length c.args.lines.now c.in-Err.failure
+    let says = FieldDecodes-fails content_length_reads reads_length c.args.lines.now c.in-Err.failure
     (λ length read. (record { 0 = length }, read)) c.in-Err.ensures in
     (Err c.in-Err.failure, says, (c.status.ensures, refl))

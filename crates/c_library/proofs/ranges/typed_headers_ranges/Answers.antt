@@ -10,11 +10,9 @@ returns-in-Ok-bytes_ranges c =
     let says = c.in-Ok.ensures in
     let ranges = c.in-Ok-bytes_ranges.ranges.items in
     let given = c.in-Ok-bytes_ranges.ensures ∙ ap (filter_map bytes_range) c.satisfiable_ranges.ensures.ranges in
-    let written =
-    subst
+    let written = subst
     (λ (items : List BytesRange). IsWritten items done c.args.room.now c.copy_into.new.room c.copy_into.new.written
-    c.copy_into.result)
-    c.as_slice.ensures.value c.copy_into.ensures in
+    c.copy_into.result) c.as_slice.ensures.value c.copy_into.ensures in
     (Ok ranges, (says.0, (says.1.0, (c.in-Ok.range.bytes, says.1.1, given))), written)
 
 pub returns-in-Ok : goal.returns-in-Ok
@@ -22,7 +20,6 @@ returns-in-Ok c = let says = c.in-Ok.ensures in (Err Memory, says.0, (c.status.e
 
 pub returns : goal.returns
 returns c =
-    let says =
-    FieldDecodes-fails (ReadsBy range_grammar) (reads_ranges c.args.length) c.args.lines.now c.in-Err.failure
+    let says = FieldDecodes-fails (ReadsBy range_grammar) (reads_ranges c.args.length) c.args.lines.now c.in-Err.failure
     (λ ranges read. (plain_value read.0, read.1)) c.in-Err.ensures in
     (Err c.in-Err.failure, says, (c.status-in-Err.ensures, refl, refl))

@@ -12,5 +12,4 @@ returns-in-Some-clause-more c =
     (between_to_end rest 1 (length rest) (omega arith) ∙ ap (drop 1) c.split_at.ensures.back ∙ drop-drop 1 end text)
 
 pub returns-in-None-clause-last : goal.returns-in-None-clause-last
-returns-in-None-clause-last c =
-    input_lines-none c.args.text.now _ c.in-None.ensures c.without_last-in-None.ensures
+returns-in-None-clause-last c = input_lines-none c.args.text.now _ c.in-None.ensures c.without_last-in-None.ensures

@@ -4,8 +4,7 @@ use Rattle.c_parts.specs.FieldText.{field_lines}
 use Rattle.c_parts.proofs.lines.read_values.Given as goal
 
 abbrev pub invariant-loop-values : goal.invariant-loop-values
-invariant-loop-values l =
-    (field_lines l.fn.text ≡ lines_of l.values.items ++ input_lines l.rest)
+invariant-loop-values l = (field_lines l.fn.text ≡ lines_of l.values.items ++ input_lines l.rest)
     × All IsFieldValue (lines_of l.values.items)
 
 abbrev pub decreases-loop-values : goal.decreases-loop-values

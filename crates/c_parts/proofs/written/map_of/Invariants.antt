@@ -3,8 +3,7 @@ use Rattle.{http_header.specs.FieldValue.FieldValue, c_parts.proofs.WrittenLemma
 use Rattle.c_parts.proofs.written.map_of.Given as goal
 
 abbrev pub invariant-loop-value : goal.invariant-loop-value
-invariant-loop-value l =
-    (taken : List FieldValue)
+invariant-loop-value l = (taken : List FieldValue)
     × (l.map ≡ alone l.name taken)
     × (taken ++ into_iter_items l.left ≡ l.fn.values.items)
     × (l._count ≡ length l.fn.values.items)

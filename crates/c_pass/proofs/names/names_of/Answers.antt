@@ -5,8 +5,7 @@ use Rattle.c_pass.proofs.NameLemmas.{names-more}
 use Rattle.c_pass.proofs.names.names_of.Goals as goal
 
 pub loop-line-preserved : goal.loop-line-preserved
-loop-line-preserved c =
-    rw c.in_ok-push.ensures.items
+loop-line-preserved c = rw c.in_ok-push.ensures.items
     (names-more c.args.lines.now c.loop-line.line-index c.line-item.result c.loop-line.names.items c.in_ok-name.name
     c.loop-line-test.true c.line-item.is c.loop-line.invariant
     (subst (λ (text : List ℕ). IsFieldName text × (c.in_ok-name.name ≡ lowercase text)) c.as_bytes.ensures.value
@@ -19,6 +18,5 @@ returns-in_err-name c =
     let error = err_from_is_err_and answer.result answer.ensures.1 in
     let is : answer.result ≡ Err failure = cc (error.1, error.2) in
     subst (IsNamesOf (lines_of c.args.lines.now)) (sym is)
-    (names-fails c.args.lines.now c.loop-line.line-index c.line-item.result failure c.loop-line-test.true
-    c.line-item.is
+    (names-fails c.args.lines.now c.loop-line.line-index c.line-item.result failure c.loop-line-test.true c.line-item.is
     (subst (λ (text : List ℕ). IsNameOf text (Err failure)) c.as_bytes.ensures.value c.in_err-name.ensures))

@@ -7,36 +7,32 @@ use Rattle.{c_parts.specs.declared.status.Failure.TheVariants.Memory, c_pass.spe
 use Rattle.c_pass.proofs.stepping.begin.Goals as goal
 
 pub returns-in-Some : goal.returns-in-Some
-returns-in-Some c =
+returns-in-Some c = record {
+  fields = c.in_ok-fields.fields;
+  is_request = search rules;
+  pass = c.new-pass.result;
+  key = search rules;
+  asks = search rules;
+  begins = inr (
     record {
-      fields = c.in_ok-fields.fields;
-      is_request = search rules;
-      pass = c.new-pass.result;
-      key = search rules;
-      asks = search rules;
-      begins =
-          inr (
-            record {
-              asking = c.begin.new.self;
-              first = c.in_ok-first.first;
-              begun =
-                  subst (λ (found : Result First AllocError). HasBegun c.new-pass.result c.args.shared.now.cache
-                  c.args.now c.begin.new.self c.begin.new.cache found) c.in_ok-first.was c.in-Ok.ensures.ok;
-              number = c.in-Some.number;
-              ahead = search rules;
-              place = search rules;
-              same =
-                  subst (λ (pass : Pass). IsSameRequest c.begin.new.self pass) (sym c.stepped_at-stepped.ensures.pass)
-                  c.anew.ensures.request;
-              began = search rules;
-              silent = c.stepped_at-stepped.ensures.silent;
-              content = c.stepped_at-stepped.ensures.content;
-              queue = refl;
-              beside = record { keys = refl; most = refl };
-            },
-            c.waiting.ensures,
-          );
-    }
+      asking = c.begin.new.self;
+      first = c.in_ok-first.first;
+      begun = subst (λ (found : Result First AllocError). HasBegun c.new-pass.result c.args.shared.now.cache
+          c.args.now c.begin.new.self c.begin.new.cache found) c.in_ok-first.was c.in-Ok.ensures.ok;
+      number = c.in-Some.number;
+      ahead = search rules;
+      place = search rules;
+      same = subst (λ (pass : Pass). IsSameRequest c.begin.new.self pass)
+          (sym c.stepped_at-stepped.ensures.pass) c.anew.ensures.request;
+      began = search rules;
+      silent = c.stepped_at-stepped.ensures.silent;
+      content = c.stepped_at-stepped.ensures.content;
+      queue = refl;
+      beside = record { keys = refl; most = refl };
+    },
+    c.waiting.ensures,
+  );
+}
 
 pub returns : goal.returns
 returns c =
@@ -47,26 +43,24 @@ returns c =
       pass = c.new-pass.result;
       key = search rules;
       asks = search rules;
-      begins =
-          inl (
-            subst (λ (pass : Pass). IsAhead c.args.shared.now.queue pass c.args.now None) (sym made)
-                (subst (λ (found : Option ℕ). IsAhead c.args.shared.now.queue c.begin.new.self c.args.now found)
-                c.in-None.is c.ahead.ensures),
-            record {
-              first = c.in_ok-first.first;
-              begun =
-                  subst (λ (pass : Pass). HasBegun c.new-pass.result c.args.shared.now.cache c.args.now pass
-                  c.tell_first.new.shared.cache (Ok c.in_ok-first.first)) (sym made)
-                  (subst (λ (cache : Cache). HasBegun c.new-pass.result c.args.shared.now.cache c.args.now
-                  c.begin.new.self cache (Ok c.in_ok-first.first)) (sym c.in_ok-facts.ensures.cache)
-                  (subst (λ (found : Result First AllocError). HasBegun c.new-pass.result c.args.shared.now.cache
-                  c.args.now c.begin.new.self c.begin.new.cache found) c.in_ok-first.was c.in-Ok.ensures.ok));
-              tells = search rules;
-              content = search rules;
-              place = search rules;
-              beside = record { keys = search rules; most = search rules };
-            },
-          );
+      begins = inl (
+        subst (λ (pass : Pass). IsAhead c.args.shared.now.queue pass c.args.now None) (sym made)
+            (subst (λ (found : Option ℕ). IsAhead c.args.shared.now.queue c.begin.new.self c.args.now found)
+            c.in-None.is c.ahead.ensures),
+        record {
+          first = c.in_ok-first.first;
+          begun = subst (λ (pass : Pass). HasBegun c.new-pass.result c.args.shared.now.cache c.args.now pass
+              c.tell_first.new.shared.cache (Ok c.in_ok-first.first)) (sym made)
+              (subst (λ (cache : Cache). HasBegun c.new-pass.result c.args.shared.now.cache c.args.now
+              c.begin.new.self cache (Ok c.in_ok-first.first)) (sym c.in_ok-facts.ensures.cache)
+              (subst (λ (found : Result First AllocError). HasBegun c.new-pass.result c.args.shared.now.cache
+              c.args.now c.begin.new.self c.begin.new.cache found) c.in_ok-first.was c.in-Ok.ensures.ok));
+          tells = search rules;
+          content = search rules;
+          place = search rules;
+          beside = record { keys = search rules; most = search rules };
+        },
+      );
     }
 
 pub returns-in_err-facts : goal.returns-in_err-facts
@@ -78,14 +72,12 @@ returns-in_err-facts c =
     let made = c.in_err-facts.ensures.pass ∙ c.stepped_at-stepped-2.ensures.pass in
     let begun = c.in-Ok.ensures.ok in
     let key : key_of c.new-pass.result ≡ c.args.request.now.target.now = search rules in
-    subst (Begins c.args.request.now c.args.now c.args.shared.now c.tell_first.new.shared) (sym is)
-    (inr (
+    subst (Begins c.args.request.now c.args.now c.args.shared.now c.tell_first.new.shared) (sym is) (inr (
       refl,
       (c.in_ok-fields.fields, search rules),
       inr (
           record {
-            does =
-                subst (λ (target : List ℕ). Does (settings_of c.args.shared.now.cache) (Looked target)
+            does = subst (λ (target : List ℕ). Does (settings_of c.args.shared.now.cache) (Looked target)
                 (kept_of c.args.shared.now.cache) (kept_of c.tell_first.new.shared.cache)) key
                 (subst (λ (cache : Cache). Does (settings_of c.args.shared.now.cache)
                 (Looked (key_of c.new-pass.result)) (kept_of c.args.shared.now.cache) (kept_of cache))
@@ -97,8 +89,7 @@ returns-in_err-facts c =
                 Err alloc_error,
                 subst (λ (target : List ℕ). Enters target c.args.now c.args.shared.now.queue
                     c.tell_first.new.shared.queue (Err alloc_error))
-                    (ap key_of made ∙ ap string_bytes begun.same.key ∙ key)
-                    unplaced.1,
+                    (ap key_of made ∙ ap string_bytes begun.same.key ∙ key) unplaced.1,
               )
             ];
             beside = record { keys = search rules; most = search rules };

@@ -11,21 +11,20 @@ module _ (old new : Pass) (before after : Cache) (now : ℕ) (number : Result (O
   -- of a pass that ends as if not all came, the content doesn't count
   unstored : (content kept : List ℕ) → HasEnded old before content Incomplete now new after number
       → HasEnded old before kept Incomplete now new after number
-  unstored content kept h =
-      record {
-        asked = h.asked;
-        status = h.status;
-        response = h.response;
-        passing = h.passing;
-        calls = h.calls;
-        closed = elim h.closed [
-          | inl is ↦ absurd (cc is.0)
-          | inr is ↦ inr is
-        ];
-        settings = h.settings;
-        same = h.same;
-        phase = h.phase;
-      }
+  unstored content kept h = record {
+    asked = h.asked;
+    status = h.status;
+    response = h.response;
+    passing = h.passing;
+    calls = h.calls;
+    closed = elim h.closed [
+      | inl is ↦ absurd (cc is.0)
+      | inr is ↦ inr is
+    ];
+    settings = h.settings;
+    same = h.same;
+    phase = h.phase;
+  }
 
   -- memory didn't run out for the content
   ended-as : (kept : Option (List ℕ)) (whole : Bool) (content : List ℕ) (given : Reception)
@@ -34,8 +33,7 @@ module _ (old new : Pass) (before after : Cache) (now : ℕ) (number : Result (O
   ended-as kept true content given (is, complete) h =
       subst (λ (k : Option (List ℕ)). HasEnded old before (unwrap_or k []) Complete now new after number) (sym is)
       (subst (λ (r : Reception). HasEnded old before content r now new after number) complete h)
-  ended-as kept false content given (lost, incomplete) h =
-      unstored content (unwrap_or kept [])
+  ended-as kept false content given (lost, incomplete) h = unstored content (unwrap_or kept [])
       (subst (λ (r : Reception). HasEnded old before content r now new after number) incomplete h)
 
 pub returns-in_err-number-in-Ok : goal.returns-in_err-number-in-Ok
@@ -46,12 +44,10 @@ returns-in_err-number-in-Ok c =
     let ended = ended-as _ _ _ _ _ _ (content_of c.args.stepped.now)
     (c.args.is_complete && is_some c.args.stepped.now.content) _ _
     (rw (c.replace.ensures.value, c.if-is_lost.false) at c.content_stored-content.ensures) c.in-Ok.ensures.ok in
-    subst (Ends c.args.now c.args.shared.now c.args.stepped.now _ _ c.args.is_complete) (sym is)
-    (inr (
+    subst (Ends c.args.now c.args.shared.now c.args.stepped.now _ _ c.args.is_complete) (sym is) (inr (
       refl,
       record {
-        ended =
-            subst (λ (n : Result (Option ℕ) AllocError). HasEnded c.args.stepped.now.pass c.args.shared.now.cache
+        ended = subst (λ (n : Result (Option ℕ) AllocError). HasEnded c.args.stepped.now.pass c.args.shared.now.cache
             (unwrap_or (content_of c.args.stepped.now) [])
             (reception_of (c.args.is_complete && is_some c.args.stepped.now.content)) c.args.now c.ended.new.self
             c.ended.new.cache n) c.in_err-number-in-Ok.was ended;
@@ -64,19 +60,16 @@ returns-in_err-number-in-Ok c =
     ))
 
 pub returns : goal.returns
-returns c =
-    record {
-      ended =
-          subst (λ (n : Result (Option ℕ) AllocError). HasEnded c.args.stepped.now.pass c.args.shared.now.cache
-          (unwrap_or (content_of c.args.stepped.now) [])
-          (reception_of (c.args.is_complete && is_some c.args.stepped.now.content)) c.args.now c.ended.new.self
-          c.ended.new.cache n) c.in_ok-number-in-Ok.was
-          (ended-as _ _ _ _ _ _ (content_of c.args.stepped.now)
-          (c.args.is_complete && is_some c.args.stepped.now.content) _ _
-          (rw (c.replace.ensures.value, c.if-is_lost.false) at c.content_stored-content.ensures) c.in-Ok.ensures.ok);
-      content = search rules;
-      place = search rules;
-      shown = search rules;
-      text = search rules;
-      beside = record { keys = search rules; most = search rules };
-    }
+returns c = record {
+  ended = subst (λ (n : Result (Option ℕ) AllocError). HasEnded c.args.stepped.now.pass c.args.shared.now.cache
+      (unwrap_or (content_of c.args.stepped.now) [])
+      (reception_of (c.args.is_complete && is_some c.args.stepped.now.content)) c.args.now c.ended.new.self
+      c.ended.new.cache n) c.in_ok-number-in-Ok.was (ended-as _ _ _ _ _ _ (content_of c.args.stepped.now)
+      (c.args.is_complete && is_some c.args.stepped.now.content) _ _
+      (rw (c.replace.ensures.value, c.if-is_lost.false) at c.content_stored-content.ensures) c.in-Ok.ensures.ok);
+  content = search rules;
+  place = search rules;
+  shown = search rules;
+  text = search rules;
+  beside = record { keys = search rules; most = search rules };
+}

@@ -10,8 +10,7 @@ returns-in_err-known c =
     let error = err_from_is_err_and answer.result answer.ensures.1 in
     let is : answer.result ≡ Err failure = cc (error.1, error.2) in
     let given = c.args.resource.now in
-    subst
-    (Answers given.parts.now given.representations.now given.rules.now c.args.request.now c.args.denial.now
+    subst (Answers given.parts.now given.representations.now given.rules.now c.args.request.now c.args.denial.now
     c.args.section.now) (sym is) (inl c.in_err-known.ensures)
 
 pub returns-in_err-answered : goal.returns-in_err-answered
@@ -21,10 +20,8 @@ returns-in_err-answered c =
     let error = err_from_is_err_and answer.result answer.ensures.1 in
     let is : answer.result ≡ Err failure = cc (error.1, error.2) in
     let given = c.args.resource.now in
-    subst
-    (Answers given.parts.now given.representations.now given.rules.now c.args.request.now c.args.denial.now
-    c.args.section.now) (sym is)
-    (elim c.in_err-answered.ensures [
+    subst (Answers given.parts.now given.representations.now given.rules.now c.args.request.now c.args.denial.now
+    c.args.section.now) (sym is) (elim c.in_err-answered.ensures [
       | inl request ↦ inr (inl request)
       | inr memory ↦
           inl (inr (inl (subst

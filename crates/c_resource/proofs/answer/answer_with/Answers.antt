@@ -48,8 +48,7 @@ returns-in_err-answer c =
     let is : answer.result ≡ Err Memory = cc (error.1, error.2) in
     let asked = c.args.request.now in
     let denial = c.args.denial.now in
-    let read =
-    is_read asked denial c.args.fields.now c.in_ok-protocol.protocol c.in_ok-method.method
+    let read = is_read asked denial c.args.fields.now c.in_ok-protocol.protocol c.in_ok-method.method
     c.in_ok-authority.authority c.in_ok-denial.denial c.in_ok-protocol.ensures c.in_ok-method.ensures
     c.in_ok-authority.ensures c.in_ok-denial.ensures in
     subst (AnswersBy asked denial c.args.fields.now c.args.resource.now) (sym is) (inr (refl, read.0, read.1))
@@ -61,8 +60,7 @@ returns-in_err-show_answer c =
     let is : answer.result ≡ Err Memory = cc (error.1, error.2) in
     let asked = c.args.request.now in
     let denial = c.args.denial.now in
-    let read =
-    is_read asked denial c.args.fields.now c.in_ok-protocol.protocol c.in_ok-method.method
+    let read = is_read asked denial c.args.fields.now c.in_ok-protocol.protocol c.in_ok-method.method
     c.in_ok-authority.authority c.in_ok-denial.denial c.in_ok-protocol.ensures c.in_ok-method.ensures
     c.in_ok-authority.ensures c.in_ok-denial.ensures in
     subst (AnswersBy asked denial c.args.fields.now c.args.resource.now) (sym is) (inr (refl, read.0, read.1))
@@ -71,31 +69,27 @@ pub returns : goal.returns
 returns c =
     let method = c.in_ok-method.ensures in
     record {
-      request =
-          record {
-            protocol = c.in_ok-protocol.protocol;
-            method = c.in_ok-method.method;
-            authority = option_map (λ (it : Bor FieldValue). it.now.bytes) c.as_ref-host.result;
-            content = c.content_of.result;
-            fields = lines_at c.args.fields.now;
-            denied = option_copied c.as_ref-denied.result;
-          };
-      is_request =
-          record {
-            protocol = c.in_ok-protocol.ensures;
-            is_method = method.0;
-            method_is = method.1;
-            authority = c.in_ok-authority.authority;
-            is_authority = c.in_ok-authority.ensures;
-            authority_is =
-                lent (λ (it : FieldValue). it.bytes) c.as_ref-host.result c.in_ok-authority.authority
-                c.as_ref-host.ensures.value;
-            content = c.content_of.ensures;
-            fields_are = refl;
-            denied =
-                subst (λ (denied : Option Denied). IsDenialAnswer c.args.denial.now (Ok denied))
-                (sym c.as_ref-denied.ensures.value) c.in_ok-denial.ensures;
-          };
+      request = record {
+        protocol = c.in_ok-protocol.protocol;
+        method = c.in_ok-method.method;
+        authority = option_map (λ (it : Bor FieldValue). it.now.bytes) c.as_ref-host.result;
+        content = c.content_of.result;
+        fields = lines_at c.args.fields.now;
+        denied = option_copied c.as_ref-denied.result;
+      };
+      is_request = record {
+        protocol = c.in_ok-protocol.ensures;
+        is_method = method.0;
+        method_is = method.1;
+        authority = c.in_ok-authority.authority;
+        is_authority = c.in_ok-authority.ensures;
+        authority_is = lent (λ (it : FieldValue). it.bytes) c.as_ref-host.result c.in_ok-authority.authority
+            c.as_ref-host.ensures.value;
+        content = c.content_of.ensures;
+        fields_are = refl;
+        denied = subst (λ (denied : Option Denied). IsDenialAnswer c.args.denial.now (Ok denied))
+            (sym c.as_ref-denied.ensures.value) c.in_ok-denial.ensures;
+      };
       answer = c.in_ok-answer.answer;
       is_answer = c.in_ok-answer.ensures;
       is_shown = c.in_ok-show_answer.ensures;

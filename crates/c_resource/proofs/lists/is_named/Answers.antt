@@ -5,8 +5,7 @@ use Rattle.c_resource.proofs.ListLemmas.{list_any-map}
 use Rattle.c_resource.proofs.lists.is_named.Goals as goal
 
 pub returns : goal.returns
-returns c =
-    any_from_yields_List (λ (it : FieldValue). bytes_eq it.bytes c.args.name.now.bytes) _ _ c.any.result
+returns c = any_from_yields_List (λ (it : FieldValue). bytes_eq it.bytes c.args.name.now.bytes) _ _ c.any.result
     c.any.ensures.ran (YieldsList-from_slice c.args.lines.now cc) (λ x b q k. search (rules, tests))
     ∙ sym (list_any-map (λ (it : Line). bytes_eq it c.args.name.now.bytes) (λ (it : FieldValue). it.bytes)
     c.args.lines.now)

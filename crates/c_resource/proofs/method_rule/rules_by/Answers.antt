@@ -19,5 +19,4 @@ loop-place-preserved c =
     let at = line_at c.args.methods.now c.loop-place.place line c.loop-place-test.true c.index-methods-place.is in
     rw c.in_ok-push.ensures.items
     (IsEachAt-push (IsRuleAt (lines_of c.args.methods.now) (lines_by c.args.lists.now)) c.loop-place.place
-    c.loop-place.rules.items c.in_ok-rule_at.field-0 c.loop-place.invariant
-    (line.bytes, at, c.in_ok-rule_at.ensures))
+    c.loop-place.rules.items c.in_ok-rule_at.field-0 c.loop-place.invariant (line.bytes, at, c.in_ok-rule_at.ensures))

@@ -5,7 +5,6 @@ use Rattle.c_resource.proofs.ListLemmas.{list_any-map}
 use Rattle.c_resource.proofs.settled.is_set_by.Goals as goal
 
 pub returns : goal.returns
-returns c =
-    any_from_yields_List (λ (it : Encoded). bytes_eq it.name c.args.name.now) _ _ c.any.result c.any.ensures.ran
+returns c = any_from_yields_List (λ (it : Encoded). bytes_eq it.name c.args.name.now) _ _ c.any.result c.any.ensures.ran
     (YieldsList-from_slice c.args.fields.now cc) (λ x b q k. search (rules, tests))
     ∙ sym (list_any-map (λ (it : Field). bytes_eq it.0 c.args.name.now) field_of c.args.fields.now)

@@ -12,7 +12,6 @@ returns c =
     ≡ (if nat_lt (position_or_len is_comma line) (length line) then Some (position_or_len is_comma line) else None) =
     position_from_yields_List is_comma c.position.new.self _ c.position.result c.position.ensures.ran
     (YieldsList-from_slice line cc) (λ x b q k. search (rules, tests)) in
-    let end : take c.unwrap_or-end.result line ≡ before_first is_comma line =
-    before_comma line c.position.result c.unwrap_or-end.result at
-    (rw c.as_bytes-line.ensures.value at c.unwrap_or-end.ensures) in
+    let end : take c.unwrap_or-end.result line ≡ before_first is_comma line = before_comma line c.position.result
+    c.unwrap_or-end.result at (rw c.as_bytes-line.ensures.value at c.unwrap_or-end.ensures) in
     rw (← end) cc

@@ -10,11 +10,9 @@ returns-clause-lifetime c =
     λ kind received response stated malformed. malformed_is_stale kind received response malformed stated
 
 pub returns-clause-guess : goal.returns-clause-guess
-returns-clause-guess c =
-    λ kind status received response guess malformed.
-    malformed_is_not_guessed kind received response malformed status guess
+returns-clause-guess c = λ kind status received response guess malformed. malformed_is_not_guessed kind received
+    response malformed status guess
 
 pub returns-clause-validated : goal.returns-clause-validated
-returns-clause-validated c =
-    λ kind stored request response freshness decision.
-    malformed_is_validated kind stored request response freshness decision
+returns-clause-validated c = λ kind stored request response freshness decision. malformed_is_validated kind stored
+    request response freshness decision

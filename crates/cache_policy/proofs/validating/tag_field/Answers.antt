@@ -3,7 +3,6 @@ use Rattle.{headers.specs.{Lines.Line, Shapes.only_tag}, cache_policy.proofs.Val
 use Rattle.cache_policy.proofs.validating.tag_field.Goals as goal
 
 pub returns : goal.returns
-returns c =
-    ap (λ (lines : List Line). (codes "if-none-match", lines))
+returns c = ap (λ (lines : List Line). (codes "if-none-match", lines))
     (canonical-lines (only_tag {V = Line} (λ tag. tag)).value_of (λ (tag : FieldValue). tag.bytes) (λ (tag : Line). tag)
     plain_value (λ _. refl) refl _ _ c.in_ok-lines.ensures)

@@ -5,8 +5,7 @@ use Rattle.cache_rules.proofs.freshening.may_keep.Goals as goal
 pub returns : goal.returns
 returns c =
     let fresh = c.args.fresh.now in
-    subst
-    (λ (request : Request). MatchBool c.may_store.result
+    subst (λ (request : Request). MatchBool c.may_store.result
     (MayStoreUnder (policy_of c.args.policy.now) request fresh.status (fields_of_stored fresh))
-    (¬ (MayStoreUnder (policy_of c.args.policy.now) request fresh.status (fields_of_stored fresh))))
-    c.head.ensures c.may_store.ensures
+    (¬ (MayStoreUnder (policy_of c.args.policy.now) request fresh.status (fields_of_stored fresh)))) c.head.ensures
+    c.may_store.ensures

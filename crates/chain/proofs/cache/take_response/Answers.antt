@@ -27,13 +27,10 @@ returns-clause-taken c = λ target request requested p.
         received_at = refl;
       };
       arrived = rw (c.deref.ensures ∙ p.key) at c.store.ensures.step;
-      stored = λ number ok.
-          subst
-          (λ (key : List ℕ). (kept : StoredResponse)
+      stored = λ number ok. subst (λ (key : List ℕ). (kept : StoredResponse)
           × IsToStore (policy_of_store c.args.store.now) came c.args.reception × IsStoredAs came kept
           × (kept.number ≡ number) × IsInserted c.args.store.now.limits key kept (contents_of c.args.store.now)
-          (contents_of c.store.new.self))
-          (c.deref.ensures ∙ p.key) (c.store.ensures.stored number ok);
+          (contents_of c.store.new.self)) (c.deref.ensures ∙ p.key) (c.store.ensures.stored number ok);
       unstored = rw (c.deref.ensures ∙ p.key) at c.store.ensures.unstored;
       memory = rw (c.deref.ensures ∙ p.key) at c.store.ensures.memory;
     }

@@ -12,15 +12,13 @@ returns c policy request update exchange old new shared get also strong about fr
     let tag = same_tag (fields_of_stored old) update strong about in
     let new_tag : tag_in (fields_of_stored new) ≡ tag_in update
     = ap only_line (fresh.fields (codes "etag")) ∙ grind (arith, tag) in
-    let is : IsOf policy target new one.request (updated version date head one) =
-    record {
+    let is : IsOf policy target new one.request (updated version date head one) = record {
       asks = rw (fresh.method, fresh.request) of.asks;
       content = of.content ∙ sym fresh.content;
       storing = says;
       tag = tagged ∙ ap (λ (o : Option Line). unwrap_or o []) (sym new_tag);
     } in
-    let may : is_renewable Right one.request place.asked.request head ≡ true =
-    rw (is.asks, asks)
+    let may : is_renewable Right one.request place.asked.request head ≡ true = rw (is.asks, asks)
     (renewable policy shared target new.status (fields_of_stored new) head says (request_of_stored new) request
     reusable.1.first reusable.1.suits (fresh.method ∙ also) get reusable.1.validating) in
     let same : bytes_eq one.given.answer.head.etag head.etag ≡ true =

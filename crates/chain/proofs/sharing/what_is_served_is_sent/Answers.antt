@@ -11,11 +11,9 @@ use Rattle.chain.proofs.sharing.what_is_served_is_sent.Goals as goal
 pub returns : goal.returns
 returns c policy limits calls contents ran shared key most request now lookup answers number age serves stored named get
     origin clients world message cache which target passed asked one at asks has of fresh =
-    let found =
-    c.lookups_serve_what_calls_justify.ensures policy limits calls contents ran key most request now lookup answers
-    number age serves in
-    let same =
-    matching policy shared target stored.status (fields_of_stored stored) one.given.answer.head of.storing
+    let found = c.lookups_serve_what_calls_justify.ensures policy limits calls contents ran key most request now lookup
+    answers number age serves in
+    let same = matching policy shared target stored.status (fields_of_stored stored) one.given.answer.head of.storing
     (request_of_stored stored) request
     (c.what_is_stored_may_be_stored.ensures policy limits calls contents ran key stored
     (HasUnder-responses_at key contents stored (Has-numbered _ number stored named).0))

@@ -9,13 +9,11 @@ returns-clause-allowed c policy request status response target head shared get m
 
 pub returns-clause-event : goal.returns-clause-event
 returns-clause-event c policy limits calls contents ran shared key stored has get origin clients world pass target place
-    given at of =
-    elim (may-be policy shared target stored.status (fields_of_stored stored) given.answer.head of.storing
+    given at of = elim (may-be policy shared target stored.status (fields_of_stored stored) given.answer.head of.storing
     (request_of_stored stored) get
     (c.what_is_stored_may_be_stored.ensures policy limits calls contents ran key stored has)) [
       | inl may ↦
-          inl (ap (λ (p : Pass). nodes_after Right p world.nodes place.cache) at
-          ∙ rw (
+          inl (ap (λ (p : Pass). nodes_after Right p world.nodes place.cache) at ∙ rw (
             eq-eqb place.cache place.cache refl,
             subst (λ (q : Sent). may_store q given.answer.head ≡ true) (sym of.asks) may,
           ) refl)

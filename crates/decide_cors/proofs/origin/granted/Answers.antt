@@ -8,8 +8,7 @@ returns-in_ok-clone c =
     true (search rules) (search rules) (rw c.deref.ensures.value at (sym c.if-is_listed.true ∙ c.is_listed.ensures)))
 
 pub returns-else-is_listed : goal.returns-else-is_listed
-returns-else-is_listed c =
-    granted_by (option_map (λ listed. lines_of listed.items) c.args.origins.now)
+returns-else-is_listed c = granted_by (option_map (λ listed. lines_of listed.items) c.args.origins.now)
     (only_line (lines_at c.args.request.now (codes "origin"))) c.in-Some.listed.items
     c.in-Some-only_value.line.now.bytes false (search rules) (search rules)
     (rw c.deref.ensures.value at (sym c.if-is_listed.false ∙ c.is_listed.ensures))

@@ -3,6 +3,5 @@ use Rattle.{rfc_fields.specs.Members.{field_left, member_of}, decide_handshake.s
 use Rattle.decide_handshake.proofs.fields.are_protocols.Goals as goal
 
 pub returns : goal.returns
-returns c =
-    all_from_yields_List is_protocol _ _ _ c.all.ensures.ran
+returns c = all_from_yields_List is_protocol _ _ _ c.all.ensures.ran
     (YieldsList-from_first member_of field_left _ c.new.ensures) (λ x b q k. search rules)

@@ -5,8 +5,6 @@ use Rattle.decide_handshake.specs.Protocols.{protocol_lines}
 use Rattle.decide_handshake.proofs.protocols.lists_protocol.Goals as goal
 
 pub returns : goal.returns
-returns c =
-    any_from_yields_List (is_text c.args.protocol.now) c.any.new.self _ c.any.result c.any.ensures.ran
+returns c = any_from_yields_List (is_text c.args.protocol.now) c.any.new.self _ c.any.result c.any.ensures.ran
     (YieldsList-from_first member_of field_left (field_members true (protocol_lines (lines_at c.args.map.now)))
-    (search rules))
-    (λ x b q k. search rules)
+    (search rules)) (λ x b q k. search rules)

@@ -16,8 +16,7 @@ loop-place-preserved g c =
     ∙ ap (λ (values : List FieldValue). quality values c.as_bytes.result.now)
     (c.get_all-field.ensures.value ∙ ap (get_all c.args.request.now) c.NAME.ensures)
     ∙ ap (quality (get_all c.args.request.now g.D.Dimension.NAME)) c.as_bytes.ensures.value in
-    let scored : c.from.result ≡ score offer =
-    c.from.ensures ∙ c.rank.ensures ∙ ap (λ (q : Quality). rank q) same in
+    let scored : c.from.result ≡ score offer = c.from.ensures ∙ c.rank.ensures ∙ ap (λ (q : Quality). rank q) same in
     let is : c.led-leader.result ≡ led c.loop-place.leader (Some c.loop-place.place) (score offer) =
     c.led-leader.ensures ∙ ap (led c.loop-place.leader (Some c.loop-place.place)) scored in
     rw (← is) at (leading_on score _ _ offer c.loop-place-test.true c.index-offers-place.is _ c.loop-place.invariant)

@@ -4,6 +4,5 @@ use Rattle.decide_negotiation.specs.Elements.{is_parameter}
 use Rattle.decide_negotiation.proofs.element.has_only_parameters.Goals as goal
 
 pub returns : goal.returns
-returns c =
-    all_from_yields_List is_parameter _ _ _ c.all.ensures.ran
+returns c = all_from_yields_List is_parameter _ _ _ c.all.ensures.ran
     (YieldsList-from_first member_of members_left _ c.members_after.ensures) (λ x b q k. search (rules, tests))

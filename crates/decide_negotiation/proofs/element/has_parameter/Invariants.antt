@@ -4,6 +4,5 @@ use Rattle.decide_negotiation.proofs.ParameterLemmas.{read}
 use Rattle.decide_negotiation.proofs.element.has_parameter.Given as goal
 
 abbrev pub invariant-loop-member : goal.invariant-loop-member
-invariant-loop-member l =
-    list_any (is_same_parameter (parameter_parts l.wanted)) (parameters_of l.text)
+invariant-loop-member l = list_any (is_same_parameter (parameter_parts l.wanted)) (parameters_of l.text)
     ≡ list_any (is_same_parameter (parameter_parts l.wanted)) (read (members_left l.member-iterator))

@@ -4,6 +4,5 @@ use Rattle.decide_negotiation.proofs.ParameterLemmas.{own}
 use Rattle.decide_negotiation.proofs.element.has_parameters_of.Given as goal
 
 abbrev pub invariant-loop-member : goal.invariant-loop-member
-invariant-loop-member l =
-    are_had (own_parameters l.element) (parameters_of l.text)
+invariant-loop-member l = are_had (own_parameters l.element) (parameters_of l.text)
     ≡ are_had (own (members_left l.member-iterator)) (parameters_of l.text)

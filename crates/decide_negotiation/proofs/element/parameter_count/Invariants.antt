@@ -3,5 +3,4 @@ use Rattle.decide_negotiation.{specs.Elements.own_parameters, proofs.ParameterLe
 use Rattle.decide_negotiation.proofs.element.parameter_count.Given as goal
 
 abbrev pub invariant-loop-member : goal.invariant-loop-member
-invariant-loop-member l =
-    length (own_parameters l.text) ≡ l.count + length (own (members_left l.member-iterator))
+invariant-loop-member l = length (own_parameters l.text) ≡ l.count + length (own (members_left l.member-iterator))

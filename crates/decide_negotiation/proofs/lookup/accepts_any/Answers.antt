@@ -5,6 +5,5 @@ use Rattle.decide_negotiation.specs.{Languages.language_element_of, Lookup.is_an
 use Rattle.decide_negotiation.proofs.lookup.accepts_any.Goals as goal
 
 pub returns : goal.returns
-returns c =
-    any_from_yields_List (λ (member : Member). option_map_or is_any (language_element_of member) false) _ _ _
+returns c = any_from_yields_List (λ (member : Member). option_map_or is_any (language_element_of member) false) _ _ _
     c.any.ensures.ran (YieldsList-from_first member_of field_left _ c.new.ensures) (λ x b q k. search (rules, tests))

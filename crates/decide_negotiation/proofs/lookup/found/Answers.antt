@@ -11,8 +11,7 @@ loop-member-init c =
     (so_far_none field c.args.offers.now)
 
 pub loop-member-preserved : goal.loop-member-preserved
-loop-member-preserved c =
-    rw (← c.led-leader.ensures) at
+loop-member-preserved c = rw (← c.led-leader.ensures) at
     (so_far_more _ _ _ _ _ _ _ c.loop-member.invariant c.in-Some.ensures.steps c.found_by-found.ensures)
 
 pub returns : goal.returns

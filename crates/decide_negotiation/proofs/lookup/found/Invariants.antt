@@ -3,5 +3,4 @@ use Rattle.{rfc_fields.specs.Members.field_members, decide_negotiation.proofs.Lo
 use Rattle.decide_negotiation.proofs.lookup.found.Given as goal
 
 abbrev pub invariant-loop-member : goal.invariant-loop-member
-invariant-loop-member l =
-    SoFar (field_members true (lines_of l.field)) l.offers (field_left l.member-iterator) l.leader
+invariant-loop-member l = SoFar (field_members true (lines_of l.field)) l.offers (field_left l.member-iterator) l.leader

@@ -8,8 +8,7 @@ pub loop-place-preserved : goal.loop-place-preserved
 loop-place-preserved c =
     let score = offer_nearness (field_members true (lines_of c.args.field.now)) (option_copied c.args.wanted) in
     let offer = c.index-offers-place.result in
-    let scored : c.nearness-score.result ≡ score offer =
-    c.nearness-score.ensures
+    let scored : c.nearness-score.result ≡ score offer = c.nearness-score.ensures
     ∙ ap (nearness (field_members true (lines_of c.args.field.now)) (option_copied c.args.wanted))
     c.as_bytes.ensures.value in
     let is : c.led-leader.result ≡ led c.loop-place.leader (Some c.loop-place.place) (score offer) =

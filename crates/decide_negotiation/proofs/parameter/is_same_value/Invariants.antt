@@ -4,6 +4,5 @@ use Rattle.decide_negotiation.proofs.parameter.is_same_value.Given as goal
 
 -- the octets are the same exactly if what is left of them is
 abbrev pub invariant-loop-octet : goal.invariant-loop-octet
-invariant-loop-octet l =
-    is_same_value (value_parts l.fn.one) (value_parts l.fn.other)
+invariant-loop-octet l = is_same_value (value_parts l.fn.one) (value_parts l.fn.other)
     ≡ same_name (octets_left l.octet-iterator) (octets_left l.others)

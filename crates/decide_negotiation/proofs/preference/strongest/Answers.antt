@@ -6,7 +6,6 @@ use Rattle.decide_negotiation.proofs.preference.strongest.Goals as goal
 
 pub returns : goal.returns
 unfolding strongest
-returns g c =
-    fold_from_yields_List _ stronger _ _ c.fold.ensures.ran (YieldsList-from_filter_map _ _
+returns g c = fold_from_yields_List _ stronger _ _ c.fold.ensures.ran (YieldsList-from_filter_map _ _
     (YieldsList-at c.filter_map.ensures.source (YieldsList-from_first member_of field_left _ c.new.ensures))
     c.filter_map.ensures.closure (λ x r q k. search (rules, tests))) (λ a x b q k. search (rules, tests))

@@ -5,8 +5,7 @@ use Rattle.decide_preconditions.proofs.range_set.capped_value.Goals as goal
 pub loop-byte-preserved : goal.loop-byte-preserved
 loop-byte-preserved c =
     let more = capped_more c.args.digits.now c.loop-byte.byte-index c.loop-byte-test.true c.requires in
-    let e : c.saturating_add-number.result ≡ capped (take (c.loop-byte.byte-index + 1) c.args.digits.now) =
-    omega (
+    let e : c.saturating_add-number.result ≡ capped (take (c.loop-byte.byte-index + 1) c.args.digits.now) = omega (
       arith,
       more,
       c.saturating_add-number.ensures,

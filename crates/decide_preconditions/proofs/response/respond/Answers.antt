@@ -4,8 +4,7 @@ use Rattle.decide_preconditions.proofs.OnePlanLemmas.{sized-from_plan}
 use Rattle.decide_preconditions.proofs.response.respond.Goals as goal
 
 pub fields-requires : goal.fields-requires
-fields-requires c =
-    sized-from_plan c.args.sending.now.present c.args.request.now.method.now
+fields-requires c = sized-from_plan c.args.sending.now.present c.args.request.now.method.now
     (lines_at c.args.request.now.fields.now) c.args.resource.now c.divisible_len-len.result c.limits-limits.result
     c.in-Some.plan (rw c.in-Some.is at c.in_ok-plan.ensures.plan) (search rules)
 
@@ -13,10 +12,9 @@ pub returns-in_err-fields-clause-memory : goal.returns-in_err-fields-clause-memo
 returns-in_err-fields-clause-memory c =
     let planned = rw c.in-Some.is at c.in_ok-plan.ensures.plan in
     let content = c.args.sending.now.content.now in
-    let own : IsPlan c.args.sending.now.present c.args.request.now.method.now
-    (lines_at c.args.request.now.fields.now) c.args.resource.now (divisible_len content) (limits_of content)
-    c.in-Some.plan =
-    rw (c.divisible_len-len.ensures, c.limits-limits.ensures) at planned in
+    let own : IsPlan c.args.sending.now.present c.args.request.now.method.now (lines_at c.args.request.now.fields.now)
+    c.args.resource.now (divisible_len content) (limits_of content) c.in-Some.plan = rw
+    (c.divisible_len-len.ensures, c.limits-limits.ensures) at planned in
     let some : IsPlannedAtAll c.args.sending.now.present c.args.request.now.method.now
     (lines_at c.args.request.now.fields.now) c.args.resource.now content = inl (c.in-Some.plan, own) in
     search (rules, some)

@@ -4,6 +4,5 @@ use Rattle.decide_preconditions.proofs.TagLemmas.{bool_of, weakly_equal}
 use Rattle.decide_preconditions.proofs.tags.is_weakly_equal.Goals as goal
 
 pub returns : goal.returns
-returns c =
-    bool_of _ _ _ c.weak_eq_bytes.ensures (weakly_equal c.args.text.now c.tag_of.result.now.bytes)
+returns c = bool_of _ _ _ c.weak_eq_bytes.ensures (weakly_equal c.args.text.now c.tag_of.result.now.bytes)
     ∙ ap (λ (etag : FieldValue). are_equal Weak c.args.text.now etag.bytes) c.tag_of.ensures

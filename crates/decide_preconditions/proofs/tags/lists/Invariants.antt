@@ -3,8 +3,7 @@ use Rattle.{rfc_fields.specs.Members.field_left, decide_preconditions.specs.Tags
 use Rattle.decide_preconditions.proofs.tags.lists.Given as goal
 
 abbrev pub invariant-loop-member : goal.invariant-loop-member
-invariant-loop-member l =
-    list_any (is_equal_member l.comparison (option_copied l.etag)) (field_left l.members)
+invariant-loop-member l = list_any (is_equal_member l.comparison (option_copied l.etag)) (field_left l.members)
     ≡ lists l.comparison (option_copied l.etag) (lines_of l.field)
 
 abbrev pub decreases-loop-member : goal.decreases-loop-member

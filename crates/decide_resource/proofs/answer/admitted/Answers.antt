@@ -11,15 +11,10 @@ returns c =
     let same : option_copied c.at_place-representation.result ≡ at_place resource.representations.items place =
     c.at_place-representation.ensures
     ∙ ap (λ (representations : List Representation). at_place representations place) c.deref.ensures.value in
-    IfOk-weaker c.going_on.result _ _
-    (λ given goes.
-    record {
+    IfOk-weaker c.going_on.result _ _ (λ given goes. record {
       place = place;
       selected = c.selected-place.ensures;
-      goes =
-          subst
+      goes = subst
           (λ (representation : Option Representation). GoesOn c.args.present resource (request_of c.args.request.now)
-          place representation given.status given.sends (fields_of given.fields.items))
-          same goes;
-    })
-    c.going_on.ensures
+          place representation given.status given.sends (fields_of given.fields.items)) same goes;
+    }) c.going_on.ensures

@@ -7,10 +7,9 @@ pub returns-in-Some : goal.returns-in-Some
 returns-in-Some c =
     let resource = c.args.resource.now in
     let request = request_of c.args.request.now in
-    first_in_order (applies c.args.present resource request) refl (Some c.in-Some.reason)
-    (subst
+    first_in_order (applies c.args.present resource request) refl (Some c.in-Some.reason) (subst
     (λ (rule : Option MethodRule).
-      Some c.in-Some.reason ≡ find (applies_by c.args.present resource request rule) in_order)
+    Some c.in-Some.reason ≡ find (applies_by c.args.present resource request rule) in_order)
     c.rule_of-rule.ensures (sym c.in-Some.is ∙ c.first_of.ensures))
 
 pub returns-in-None : goal.returns-in-None

@@ -9,7 +9,5 @@ returns c =
     let representations = c.args.representations.now in
     let ends : c.loop-index.index ≡ length representations = omega arith in
     leader_is_picked scored representations (record { place = c.loop-index.place; score = c.loop-index.greatest })
-    (subst
-    (λ (n : ℕ). IsLeading scored representations n
-    (record { place = c.loop-index.place; score = c.loop-index.greatest }))
-    ends c.loop-index.invariant)
+    (subst (λ (n : ℕ). IsLeading scored representations n
+    (record { place = c.loop-index.place; score = c.loop-index.greatest })) ends c.loop-index.invariant)

@@ -10,12 +10,9 @@ returns c =
       record {
         kind = said.kind;
         allowed = said.allowed;
-        fields =
-            said.fields
-            ∙ ap
-            (λ (lines : List Line). fields_sent c.args.policy.now (is_preflight answer.kind)
-            (lines_at c.args.request.now.fields.now (codes "origin")) lines)
-            c.in_ok-response.ensures;
+        fields = said.fields
+            ∙ ap (λ (lines : List Line). fields_sent c.args.policy.now (is_preflight answer.kind)
+            (lines_at c.args.request.now.fields.now (codes "origin")) lines) c.in_ok-response.ensures;
       },
       refl,
     )

@@ -9,5 +9,4 @@ returns-clause-missing c present resource request answer wide is =
     others_missing resource wide present request answer is
 
 pub returns-clause-allowed : goal.returns-clause-allowed
-returns-clause-allowed c present resource request answer wide =
-    never_refused resource wide.rules present request answer
+returns-clause-allowed c present resource request answer wide = never_refused resource wide.rules present request answer

@@ -11,8 +11,7 @@ returns-clause-valid c =
     let host = optional_pair (codes "host") arrival.host in
     join_valid (pair_text (codes "for") (node_text arrival.client)) _
     (pair_valid (codes "for") (node_text arrival.client) (AllPass-from_test is_value_byte (codes "for") refl)
-    c.in_ok-client.ensures.valid)
-    (join_valid by _ c.in_ok-push_interface.ensures.valid
+    c.in_ok-client.ensures.valid) (join_valid by _ c.in_ok-push_interface.ensures.valid
     (join_valid host _ c.in_ok-push_host.ensures.valid
     (optional_valid (codes "proto") (scheme_text arrival.scheme) (AllPass-from_test is_value_byte (codes "proto") refl)
     (scheme_valid arrival.scheme))))

@@ -3,6 +3,5 @@ use Rattle.gateway_hops.specs.Elements.{escaped}
 use Rattle.gateway_hops.proofs.element.push_quoted.Given as goal
 
 abbrev pub invariant-loop-octet : goal.invariant-loop-octet
-invariant-loop-octet l =
-    l.text.items ++ flat_map escaped (drop l.octet-index l.octets)
+invariant-loop-octet l = l.text.items ++ flat_map escaped (drop l.octet-index l.octets)
     ≡ l.fn.text.items ++ quote ∷ flat_map escaped l.octets

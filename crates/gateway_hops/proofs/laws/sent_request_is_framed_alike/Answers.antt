@@ -13,10 +13,8 @@ frames_nothing hop Forwarded received = refl
 frames_nothing hop Answered received = refl
 
 pub returns : goal.returns
-returns c gateway hop request sent recipient p k =
-    ap (λ (fields : List Field). framing_by recipient fields) p.fields
+returns c gateway hop request sent recipient p k = ap (λ (fields : List Field). framing_by recipient fields) p.fields
     ∙ replaced_framing (hop_fields hop.connection hop.forwarding hop.arrival sent.expectation request.fields)
-    (fields_of p.forwarded.fields.items) recipient
-    (frames_nothing hop sent.expectation request.fields) k
+    (fields_of p.forwarded.fields.items) recipient (frames_nothing hop sent.expectation request.fields) k
     ∙ c.forwarded_request_is_framed_alike.ensures gateway request p.forwarded recipient p.forwards k
     ∙ ap (accepted_by recipient) (sym p.framing)

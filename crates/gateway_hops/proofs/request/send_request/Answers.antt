@@ -4,12 +4,11 @@ use Rattle.{gateway_messages.specs.FieldLines.fields_of, gateway_hops.specs.Repl
 use Rattle.gateway_hops.proofs.request.send_request.Goals as goal
 
 pub returns-then-lacks_length-clause-ok : goal.returns-then-lacks_length-clause-ok
-returns-then-lacks_length-clause-ok c =
-    record {
-      forwarded = c.in-Forward.forwarded;
-      forwards = rw c.in-Forward.is at c.in_ok-forwarded.ensures.ok;
-      lacks = search rules;
-    }
+returns-then-lacks_length-clause-ok c = record {
+  forwarded = c.in-Forward.forwarded;
+  forwards = rw c.in-Forward.is at c.in_ok-forwarded.ensures.ok;
+  lacks = search rules;
+}
 
 pub returns-clause-ok : goal.returns-clause-ok
 returns-clause-ok c =

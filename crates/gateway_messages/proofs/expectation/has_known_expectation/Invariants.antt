@@ -4,8 +4,7 @@ use Rattle.gateway_messages.specs.Expectations.{continue_name, has_known_expecta
 use Rattle.gateway_messages.proofs.expectation.has_known_expectation.Given as goal
 
 abbrev pub invariant-loop-member : goal.invariant-loop-member
-invariant-loop-member l =
-    list_all (is_same_token continue_name) (field_left l.members)
+invariant-loop-member l = list_all (is_same_token continue_name) (field_left l.members)
     ≡ has_known_expectation (lines_at l.fields (codes "expect"))
 
 abbrev pub decreases-loop-member : goal.decreases-loop-member

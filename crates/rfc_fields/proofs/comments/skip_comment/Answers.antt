@@ -4,14 +4,12 @@ use Rattle.rfc_fields.proofs.CommentLemmas.{no_comment, within-next}
 use Rattle.rfc_fields.proofs.comments.skip_comment.Goals as goal
 
 pub returns-in-Closed : goal.returns-in-Closed
-returns-in-Closed c =
-    subst (HasComment c.args.text.now) (sym (take_rest c.args.text.now (c.loop-place.place + 1)))
+returns-in-Closed c = subst (HasComment c.args.text.now) (sym (take_rest c.args.text.now (c.loop-place.place + 1)))
     (closed_comment c.loop-place.nesting c.loop-place.place c.args.text.now c.loop-place-test.true c.if-text-ne40.false
     (sym c.after.ensures.value ∙ c.in-Closed.is) c.loop-place.invariant.0)
 
 pub returns-in-Never : goal.returns-in-Never
-returns-in-Never c =
-    no_comment _
+returns-in-Never c = no_comment _
     (never-next _ _ _ _ c.loop-place-test.true (sym c.after.ensures.value ∙ c.in-Never.is) c.loop-place.invariant.0)
 
 pub loop-place-preserved : goal.loop-place-preserved
@@ -21,7 +19,6 @@ loop-place-preserved c = (
 )
 
 pub returns : goal.returns
-returns c =
-    no_comment c.args.text.now
+returns c = no_comment c.args.text.now
     (behind-end c.loop-place.nesting c.loop-place.place c.args.text.now _ (omega (arith, c.loop-place-test.false))
     c.loop-place.invariant.0)

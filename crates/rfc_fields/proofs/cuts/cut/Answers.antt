@@ -7,8 +7,7 @@ returns-in-Some c =
     let text = c.args.text.now in
     let place = c.in-Some.place in
     let fits = length-drop (place + 1) text in
-    let rest = take_all (length text - (place + 1)) (drop (place + 1) text) (omega (arith, fits))
-    in
+    let rest = take_all (length text - (place + 1)) (drop (place + 1) text) (omega (arith, fits)) in
     rw (place_found _ text (Some place) c.in-Some.ensures) (ap (λ (r : List ℕ). Some (take place text, r)) rest)
 
 pub returns-in-None : goal.returns-in-None

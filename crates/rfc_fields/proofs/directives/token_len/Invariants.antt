@@ -2,5 +2,4 @@ use Rattle.{std.{proofs.Common.{◌≡◌, ◌+◌, drop}, specs.List.prefix_len
 use Rattle.rfc_fields.proofs.directives.token_len.Given as goal
 
 abbrev pub invariant-loop-place : goal.invariant-loop-place
-invariant-loop-place l =
-    prefix_len is_token_byte l.bytes ≡ l.place + prefix_len is_token_byte (drop l.place l.bytes)
+invariant-loop-place l = prefix_len is_token_byte l.bytes ≡ l.place + prefix_len is_token_byte (drop l.place l.bytes)

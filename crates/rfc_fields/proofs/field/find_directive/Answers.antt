@@ -2,8 +2,7 @@ use Rattle.rfc_fields.proofs.FieldLemmas.{so_far_more, so_far_other}
 use Rattle.rfc_fields.proofs.field.find_directive.Goals as goal
 
 pub loop-member-preserved : goal.loop-member-preserved
-loop-member-preserved c =
-    rw (← c.or_named-found.ensures) at
+loop-member-preserved c = rw (← c.or_named-found.ensures) at
     (so_far_more _ _ _ _ _ _ _ c.loop-member.invariant c.in-Some.ensures c.in-Ok.ensures)
 
 pub returns-in-Err : goal.returns-in-Err

@@ -15,6 +15,5 @@ returns-in-None-clause-value c =
     (number_from _ None) c.octets-octets.ensures ∙ number_from-none _ _
 
 pub returns-clause-value : goal.returns-clause-value
-returns-clause-value c =
-    sym (number_from-end _ _ _ _ c.in_default.ensures.0 c.loop-octet.invariant.read) ∙ ap (number_from _ None)
-    c.octets-octets.ensures ∙ number_from-none _ _
+returns-clause-value c = sym (number_from-end _ _ _ _ c.in_default.ensures.0 c.loop-octet.invariant.read) ∙ ap
+    (number_from _ None) c.octets-octets.ensures ∙ number_from-none _ _

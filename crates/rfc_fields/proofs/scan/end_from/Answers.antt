@@ -7,9 +7,8 @@ returns-then-is_cut c =
     c.loop-place-test.true (sym c.is_cut.ensures ∙ c.if-is_cut.true) c.loop-place.invariant)
 
 pub loop-place-preserved : goal.loop-place-preserved
-loop-place-preserved c =
-    end_from-next _ _ _ _ _ _ _ c.loop-place-test.true (sym c.is_cut.ensures ∙ c.if-is_cut.false) c.after-state.ensures
-    c.loop-place.invariant
+loop-place-preserved c = end_from-next _ _ _ _ _ _ _ c.loop-place-test.true (sym c.is_cut.ensures ∙ c.if-is_cut.false)
+    c.after-state.ensures c.loop-place.invariant
 
 pub returns : goal.returns
 returns c = c.last_end.ensures ∙ sym (end_from-end _ _ _ _ _ _ c.loop-place-test.false c.loop-place.invariant)

@@ -7,8 +7,7 @@ returns-then-not-is_quoted c =
     octets_plain c.args.is_quoted c.args.text.now (λ e f g. let h = c.if-not-is_quoted.true in cc)
 
 pub returns-then-is_empty : goal.returns-then-is_empty
-returns-then-is_empty c =
-    octets_plain c.args.is_quoted c.args.text.now
+returns-then-is_empty c = octets_plain c.args.is_quoted c.args.text.now
     (λ e f g. let none = eqb-true (length c.args.text.now) 0 (sym c.if-is_empty.ensures) in omega arith)
 
 pub returns-then-text-eq92 : goal.returns-then-text-eq92

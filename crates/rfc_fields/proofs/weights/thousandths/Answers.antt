@@ -2,8 +2,7 @@ use Rattle.{std.proofs.Common.{◌≡◌, ◌*◌, Some, refl, ◌∙◌, ap, op
 use Rattle.rfc_fields.proofs.weights.thousandths.Goals as goal
 
 pub returns-in-Some-number_within-clause-value : goal.returns-in-Some-number_within-clause-value
-returns-in-Some-number_within-clause-value c =
-    ap (option_map (λ n. n * 10)) c.in-Some-number_within.ensures.value
+returns-in-Some-number_within-clause-value c = ap (option_map (λ n. n * 10)) c.in-Some-number_within.ensures.value
     ∙ scaled 99 1 10 c.args.digits.now c.in-2.is (omega arith) refl refl
 
 pub returns-in-Some-number_within-2-clause-value : goal.returns-in-Some-number_within-2-clause-value

@@ -3,16 +3,14 @@ use Rattle.rfc_lists.proofs.ElementLemmas.{after_first, no_pairs_left, not_first
 use Rattle.rfc_lists.proofs.elements.is_hop.Goals as goal
 
 pub returns-then-not-branch : goal.returns-then-not-branch
-returns-then-not-branch c =
-    not_first c.args.element.now c.in-Ok.parts.value.now (members_left c.in-Ok.parts.parameters) c.in-Ok.ensures _
-    (ap (map text_of) c.new-names.ensures.items) _ _
+returns-then-not-branch c = not_first c.args.element.now c.in-Ok.parts.value.now (members_left c.in-Ok.parts.parameters)
+    c.in-Ok.ensures _ (ap (map text_of) c.new-names.ensures.items) _ _
     (c.in_ok-push_first_new.ensures (members_left c.in-Ok.parts.parameters)) c.if-not-branch.true
 
 pub returns-then-not-branch-2 : goal.returns-then-not-branch-2
 returns-then-not-branch-2 c =
-    let first =
-    after_first c.args.element.now c.in-Ok.parts.value.now (members_left c.in-Ok.parts.parameters) c.in-Ok.ensures _
-    (ap (map text_of) c.new-names.ensures.items) _ _
+    let first = after_first c.args.element.now c.in-Ok.parts.value.now (members_left c.in-Ok.parts.parameters)
+    c.in-Ok.ensures _ (ap (map text_of) c.new-names.ensures.items) _ _
     (c.in_ok-push_first_new.ensures (members_left c.in-Ok.parts.parameters)) c.if-not-branch.false in
     let pushed = c.in_ok-push_new.ensures (members_left c.next.new.self) in
     let wrong = rw c.if-not-branch-2.true at pushed in
@@ -22,9 +20,8 @@ returns-then-not-branch-2 c =
 
 pub returns : goal.returns
 returns c =
-    let first =
-    after_first c.args.element.now c.in-Ok.parts.value.now (members_left c.in-Ok.parts.parameters) c.in-Ok.ensures _
-    (ap (map text_of) c.new-names.ensures.items) _ _
+    let first = after_first c.args.element.now c.in-Ok.parts.value.now (members_left c.in-Ok.parts.parameters)
+    c.in-Ok.ensures _ (ap (map text_of) c.new-names.ensures.items) _ _
     (c.in_ok-push_first_new.ensures (members_left c.in-Ok.parts.parameters)) c.if-not-branch.false in
     let names = map text_of c.loop-parameter.names.items in
     let last = no_pairs_left names (members_left c.loop-parameter.parameter-iterator) c.in-None.ensures.steps.0 in

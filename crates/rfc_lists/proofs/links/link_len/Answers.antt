@@ -6,9 +6,8 @@ returns-then-separates-clause-len c =
     sym (here _ _ _ _ c.loop-index-test.true (sym c.separates.ensures ∙ c.if-separates.true) c.loop-index.invariant)
 
 pub loop-index-preserved : goal.loop-index-preserved
-loop-index-preserved c =
-    next _ _ _ _ _ c.loop-index-test.true (sym c.separates.ensures ∙ c.if-separates.false) c.after-place.ensures
-    c.loop-index.invariant
+loop-index-preserved c = next _ _ _ _ _ c.loop-index-test.true (sym c.separates.ensures ∙ c.if-separates.false)
+    c.after-place.ensures c.loop-index.invariant
 
 pub returns-clause-len : goal.returns-clause-len
 returns-clause-len c =

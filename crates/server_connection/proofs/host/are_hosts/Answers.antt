@@ -32,9 +32,8 @@ returns-then-not-is_host c = (
 )
 
 pub loop-span-preserved : goal.loop-span-preserved
-loop-span-preserved c =
-    All-more (λ s. IsHostValid (header_bytes c.args.input.now s)) c.args.spans.now c.loop-span.span-index no_span
-    c.loop-span-test.true c.loop-span.invariant
+loop-span-preserved c = All-more (λ s. IsHostValid (header_bytes c.args.input.now s)) c.args.spans.now
+    c.loop-span.span-index no_span c.loop-span-test.true c.loop-span.invariant
     (λ named. elim c.else-eq_ignore_case.branch [
       | else-eq_ignore_case-via-then-eq_ignore_case+else-not-is_host w ↦
           subst IsHostText w.of-then-eq_ignore_case.ensures (w.is_host.ensures.0 w.if-not-is_host.false)

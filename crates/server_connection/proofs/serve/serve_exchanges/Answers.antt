@@ -11,14 +11,12 @@ returns-in_err-buffer g c =
     run_ends r r w w _ (ap is_ok p.1) run (cut_short (is_reached run.4.turned))
 
 pub loop-init : goal.loop-init
-loop-init g c =
-    run_first (g.R.Read.remaining c.args.reader.now) (g.W.Write.contents c.args.writer.now)
+loop-init g c = run_first (g.R.Read.remaining c.args.reader.now) (g.W.Write.contents c.args.writer.now)
     (c.new-connection.ensures.begins c.args.handler.now) c.new-connection.ensures.ended
 
 pub loop-preserved : goal.loop-preserved
-loop-preserved g c =
-    runs_on (g.R.Read.remaining c.args.reader.now) (g.W.Write.contents c.args.writer.now) c.turn.ensures
-    c.loop.invariant
+loop-preserved g c = runs_on (g.R.Read.remaining c.args.reader.now) (g.W.Write.contents c.args.writer.now)
+    c.turn.ensures c.loop.invariant
 
 pub returns-in_err-turn : goal.returns-in_err-turn
 returns-in_err-turn g c =

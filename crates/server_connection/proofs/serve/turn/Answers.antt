@@ -5,21 +5,18 @@ use Rattle.server_connection.proofs.TurnLemmas.{rests_open, stays_known, turned_
 use Rattle.server_connection.proofs.serve.turn.Goals as goal
 
 pub returns-in-Request : goal.returns-in-Request
-returns-in-Request g c =
-    turns_by [] (Appends-none _ _ (stays_known (g.W.Write.contents c.args.writer.now)))
+returns-in-Request g c = turns_by [] (Appends-none _ _ (stays_known (g.W.Write.contents c.args.writer.now)))
     (moves_then c.next.ensures.moves (moves_steps c.answer.ensures)) (c.answer.ensures.ended ∙ c.next.ensures.ended)
 
 pub returns-in-Output : goal.returns-in-Output
-returns-in-Output g c =
-    turns_by c.send.ensures.0 c.send.ensures.1 (moves_then c.next.ensures.moves c.send.ensures.2)
+returns-in-Output g c = turns_by c.send.ensures.0 c.send.ensures.1 (moves_then c.next.ensures.moves c.send.ensures.2)
     (c.send.ensures.3 ∙ c.next.ensures.ended)
 
 pub returns-in_err-read_from-in-NeedsInput : goal.returns-in_err-read_from-in-NeedsInput
 returns-in_err-read_from-in-NeedsInput g c =
     let wants = subst (IsSaid c.next.new.connection.machine) c.in-NeedsInput.is c.next.ensures.said in
     let failed = c.in_err-read_from-in-NeedsInput.ensures.err in
-    turns_read [] c.flush.ensures.bytes (Consumes-none _ _ failed.2) c.next.ensures.moves
-    (
+    turns_read [] c.flush.ensures.bytes (Consumes-none _ _ failed.2) c.next.ensures.moves (
     λ config first r s h y.
     let rests = c.next.ensures.rests c.in-NeedsInput.is config first r s (is_reached h.turned) in
     record {
@@ -32,8 +29,7 @@ pub returns-in_ok-read_from-in-NeedsInput : goal.returns-in_ok-read_from-in-Need
 returns-in_ok-read_from-in-NeedsInput g c =
     let wants = subst (IsSaid c.next.new.connection.machine) c.in-NeedsInput.is c.next.ensures.said in
     let came = c.in_ok-read_from-in-NeedsInput.ensures.ok in
-    turns_read came.0 c.flush.ensures.bytes came.2 c.next.ensures.moves
-    (
+    turns_read came.0 c.flush.ensures.bytes came.2 c.next.ensures.moves (
     λ config first r s h y.
     let rests = c.next.ensures.rests c.in-NeedsInput.is config first r s (is_reached h.turned) in
     record {
@@ -47,17 +43,13 @@ pub returns-in_ok-flush-in-Closed : goal.returns-in_ok-flush-in-Closed
 returns-in_ok-flush-in-Closed g c =
     let wants = subst (IsSaid c.next.new.connection.machine) c.in-Closed.is c.next.ensures.said in
     let drops = c.drop_content.ensures.drops in
-    turns_read drops.0 c.flush-in-Closed.ensures.bytes drops.2 c.next.ensures.moves
-    (
-    λ config first r s h y.
-    record {
+    turns_read drops.0 c.flush-in-Closed.ensures.bytes drops.2 c.next.ensures.moves (
+    λ config first r s h y. record {
       turned = turned_drop drops.0 y wants.1 drops.1;
-      ends =
-          λ e.
-          elim (c.drop_content.ensures.end e) [
-            | inl same ↦ subst IsAtEnd (sym same.1) (h.ends (sym c.next.ensures.ended ∙ same.0))
-            | inr none ↦ none
-          ];
+      ends = λ e. elim (c.drop_content.ensures.end e) [
+        | inl same ↦ subst IsAtEnd (sym same.1) (h.ends (sym c.next.ensures.ended ∙ same.0))
+        | inr none ↦ none
+      ];
     }
     )
 

@@ -503,8 +503,8 @@ module _ {now : Option ℕ} {left : ℕ} {site : Site} {has : List ℕ → Entry
 
     sound : IsBareIfAny site.resource.cors → list_all is_sound_line ((front ++ own) ++ page) ≡ true
     sound bare =
-        let fields = answer_sound present resource answered.0 x.found.files.items x.described.are x.answer answered.4 bare
-        x.carries.tagged in
+        let fields = answer_sound present resource answered.0 x.found.files.items x.described.are x.answer answered.4
+        bare x.carries.tagged in
         let sent = sent_sound (is_some site.resource.cors) given fields in
         grind (arith, before.sound, after.sound, list_all-append)
 

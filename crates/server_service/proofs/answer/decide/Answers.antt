@@ -7,19 +7,15 @@ pub returns-then-is_sendable-clause-answers : goal.returns-then-is_sendable-clau
 returns-then-is_sendable-clause-answers c = inl (c.if-is_sendable.ensures, c.in_ok-asked.ensures)
 
 pub returns-then-is_sendable-clause-fits : goal.returns-then-is_sendable-clause-fits
-returns-then-is_sendable-clause-fits c =
-    FitsIn-from_answer c.args.present c.args.resource.now (request_of c.args.request.now) c.args.files.now c.requires
-    c.in_ok-asked.asked c.in_ok-asked.ensures
+returns-then-is_sendable-clause-fits c = FitsIn-from_answer c.args.present c.args.resource.now
+    (request_of c.args.request.now) c.args.files.now c.requires c.in_ok-asked.asked c.in_ok-asked.ensures
 
 pub returns-clause-answers : goal.returns-clause-answers
-returns-clause-answers c =
-    IfOk-weaker c.answer_request-2.result _ _
+returns-clause-answers c = IfOk-weaker c.answer_request-2.result _ _
     (λ answer is. inr (c.in_ok-asked.asked, c.if-is_sendable.ensures, c.in_ok-asked.ensures, is))
     c.answer_request-2.ensures
 
 pub returns-clause-fits : goal.returns-clause-fits
-returns-clause-fits c =
-    IfOk-weaker c.answer_request-2.result _ _
+returns-clause-fits c = IfOk-weaker c.answer_request-2.result _ _
     (FitsIn-from_answer c.args.present c.args.resource.now (as_head (request_of c.args.request.now))
-    c.args.files.now c.requires)
-    c.answer_request-2.ensures
+    c.args.files.now c.requires) c.answer_request-2.ensures

@@ -22,8 +22,7 @@ loop-rest-preserved c =
     )
 
 pub returns-clause-headers : goal.returns-clause-headers
-returns-clause-headers c =
-    sym (append-nil (fields_of c.loop-rest.response))
+returns-clause-headers c = sym (append-nil (fields_of c.loop-rest.response))
     ∙ ap (λ (l : List Header). fields_of c.loop-rest.response ++ l)
     (sym (headers_set-none c.loop-rest.rest.now c.in_default.len_below))
     ∙ c.loop-rest.invariant.0

@@ -7,8 +7,7 @@ use Rattle.test_rows.proofs.replay.replay_text.Goals.{then-is_row+in_ok-replay_l
 
 pub loop-index-preserved : goal.loop-index-preserved
 loop-index-preserved g c =
-    let more =
-    length-filter-map_more is_row_line (λ line. line.now) c.deref-line-items.result.now c.loop-index.index _
+    let more = length-filter-map_more is_row_line (λ line. line.now) c.deref-line-items.result.now c.loop-index.index _
     c.is_row.result (omega (arith, c.loop-index-test.true)) c.is_row.ensures in
     elim c.if-is_row.branch [
       | then-is_row+in_ok-replay_line w ↦
@@ -38,8 +37,7 @@ returns g c =
     (YieldsList-from_lines c.args.text.now c.lines.ensures.rest)) in
     let held : map (λ line. line.now) c.deref-line-items.result.now ≡ lines c.args.text.now =
     ap (map (λ line. line.now)) c.deref-line-items.ensures.value ∙ found in
-    let whole =
-    take_all c.loop-index.index (map (λ line. line.now) c.deref-line-items.result.now)
+    let whole = take_all c.loop-index.index (map (λ line. line.now) c.deref-line-items.result.now)
     (subst (λ n. n ≤ c.loop-index.index) (sym (length-map c.deref-line-items.result.now (λ line. line.now)))
     c.loop-index-test.false) in
     c.loop-index.invariant ∙ ap (λ ls. c.args.tally.now.rows + length (filter is_row_line ls)) (whole ∙ held)

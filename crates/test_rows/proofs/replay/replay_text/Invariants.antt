@@ -2,6 +2,5 @@ use Rattle.{std.proofs.Common.{◌≡◌, ◌+◌, length, filter, take, map}, t
 use Rattle.test_rows.proofs.replay.replay_text.Given as goal
 
 abbrev pub invariant-loop-index : goal.invariant-loop-index
-invariant-loop-index g l =
-    l.tally.rows
+invariant-loop-index g l = l.tally.rows
     ≡ l.initial.tally.rows + length (filter is_row_line (take l.index (map (λ line. line.now) l.line-items)))

@@ -12,5 +12,4 @@ pub returns-clause-read : goal.returns-clause-read
 returns-clause-read c first events change has = ((holds first events).changes change has).0
 
 pub returns-clause-sent : goal.returns-clause-sent
-returns-clause-sent c first events passed put =
-    found_each _ _ (holds first events).messages (Going passed (Puts put))
+returns-clause-sent c first events passed put = found_each _ _ (holds first events).messages (Going passed (Puts put))

@@ -26,14 +26,11 @@ closed_spec 𝓤 𝓛 𝓜 𝓡 wired =
     let Post : Val → SProp 𝓤 = (walk_of 𝓛 ended stays c).post z in
     let made : (handle.the_row).Denot = record { at = null_ptr; is_open = false; held = None; opened = refl } in
     qed 𝓛 ((raw (alive 𝓛 ended.signature z.0.0 z.0.1) ⊛ ‵ (owns
-    (types_at ended.signature.params z.0.0) z.0.3 z.0.4)) ∷ ‵ ftrue ∷ []) ∵
-    move ! (1 ∷ []) $ drop ! $ split ! $ move ! (1 ∷ []) $ drop ! $
-    enter ! C Λ fn [] Post $
-    alloc_all ! (λ l. pass_all ! refl tt $
+    (types_at ended.signature.params z.0.0) z.0.3 z.0.4)) ∷ ‵ ftrue ∷ []) ∵ move ! (1 ∷ []) $ drop ! $ split ! $ move !
+    (1 ∷ []) $ drop ! $ enter ! C Λ fn [] Post $ alloc_all ! (λ l. pass_all ! refl tt $
     sets ! (agg ! (and_then ! (lit ! tt) (and_then ! (false_lit !) (no_more !)))) refl (flagged_typed null_ptr false) $
     returns ! (look_at ! 0 refl) $ free_all ! refl $
     nothing ! $ use0 𝓛 (‵ (flagged_own null_ptr false (flagged_val null_ptr false ∷ [])))
     (flagged_made 𝓛 null_ptr false) $ fjoin ! $
     use0 𝓛 (raw (fact 𝓤 (made.held ≡ None))) (fact_i 𝓤 (made.held ≡ None) (emp 𝓤) refl) $ nothing ! $
-    move ! (3 ∷ 0 ∷ 2 ∷ 1 ∷ []) $
-    by ! (leaves 𝓛 ended stays c z (flagged_val null_ptr false) made tt tt)))
+    move ! (3 ∷ 0 ∷ 2 ∷ 1 ∷ []) $ by ! (leaves 𝓛 ended stays c z (flagged_val null_ptr false) made tt tt)))

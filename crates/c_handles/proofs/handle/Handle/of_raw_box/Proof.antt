@@ -37,26 +37,21 @@ of_raw_box_spec 𝓤 𝓛 𝓜 𝓡 wired =
     let Post : Val → SProp 𝓤 = (walk_of 𝓛 ended stays c).post z in
     let x = z.0.3.0 in
     qed 𝓛 ((raw (alive 𝓛 ended.signature z.0.0 z.0.1) ⊛ ‵ (owns
-    (types_at ended.signature.params z.0.0) z.0.3 z.0.4)) ∷ ‵ ftrue ∷ []) ∵
-    move ! (1 ∷ []) $ drop ! $ split ! $ move ! (1 ∷ []) $ fsplit ! $
-    loose_out Stored.the_row Heap.the_row heap.the_row_laws ghosts ! x z.0.4.0 (λ b o h e ws fits.
+    (types_at ended.signature.params z.0.0) z.0.3 z.0.4)) ∷ ‵ ftrue ∷ []) ∵ move ! (1 ∷ []) $ drop ! $ split ! $ move !
+    (1 ∷ []) $ fsplit ! $ loose_out Stored.the_row Heap.the_row heap.the_row_laws ghosts ! x z.0.4.0 (λ b o h e ws fits.
     let made : (handle.the_row).Denot = record {
       at = block_ptr b o;
       is_open = true;
       held = Some x.value;
-      opened =
-          refl;
+      opened = refl;
     } in
-    move ! (1 ∷ 2 ∷ []) $ drop ! $ drop ! $
-    regoal ! (λ (us : List Val). prop (WpFn 𝓤 H C Λ fn us Post)) (λ i. ws i ++ []) refl $
-    enter ! C Λ fn (both (vptr b o) h ∷ []) Post $
-    alloc_all ! (λ l. pass_all ! refl (loose_good Stored.the_row Heap.the_row heap.the_row_laws ghosts b o h fits, tt)
-    $
+    move ! (1 ∷ 2 ∷ []) $ drop ! $ drop ! $ regoal ! (λ (us : List Val). prop (WpFn 𝓤 H C Λ fn us Post))
+    (λ i. ws i ++ []) refl $ enter ! C Λ fn (both (vptr b o) h ∷ []) Post $ alloc_all !
+    (λ l. pass_all ! refl (loose_good Stored.the_row Heap.the_row heap.the_row_laws ghosts b o h fits, tt) $
     sets ! (of_opd ! (get_in ! (fld ! refl (stop !)) (sub ! 0 refl (whole !)))) refl (tt, tt) $
     sets ! (of_opd ! (get ! refl)) refl (tt, tt) $
     sets ! (agg ! (and_then ! (get ! refl) (and_then ! (true_lit !) (no_more !)))) refl (flagged_typed
-    (block_ptr b o) true) $
-    returns ! (look_at ! 0 refl) $ free_all ! refl $
+    (block_ptr b o) true) $ returns ! (look_at ! 0 refl) $ free_all ! refl $
     use0 𝓛 (‵ (flagged_own (block_ptr b o) true (flagged_val (block_ptr b o) true ∷ []))) (flagged_made 𝓛
     (block_ptr b o) true) $ fjoin ! $
     use0 𝓛 (raw (fact 𝓤 (made.held ≡ Some x.value))) (fact_i 𝓤 (made.held ≡ Some x.value) (emp 𝓤) refl) $

@@ -43,32 +43,25 @@ get_spec 𝓤 𝓛 𝓜 𝓡 wired =
     let Post : Val → SProp 𝓤 = (walk_of 𝓛 ended stays c).post z in
     let there : Val = vptr (block_of p) (count_of p) in
     qed 𝓛 (((‵ (flft κ qs.0) ⊛ ‵ ftrue) ⊛ ‵ (owns (types_at ended.signature.params κs) a z.0.4))
-    ∷ raw (fact 𝓤 (x.held ≢ None)) ∷ []) ∵
-    move ! (1 ∷ []) $ heard ! (x.held ≢ None) (λ has. some_of x.held has (λ v is.
+    ∷ raw (fact 𝓤 (x.held ≢ None)) ∷ []) ∵ move ! (1 ∷ []) $ heard ! (x.held ≢ None) (λ has. some_of x.held has (λ v is.
     split ! $ split ! $ move ! (2 ∷ []) $ fsplit ! $ fsplit ! $ keep ! (1 ∷ 3 ∷ 4 ∷ []) $
     enter ! 𝓣.C 𝓣.Λ fn (vptr b o ∷ []) Post $ alloc_all ! (λ l. pass_all ! refl ((tt, tt), tt) $
     let Ev = env fn.locals l in
     use1 𝓛 (‵ (hidden_shr Data κ (p, tt) b o) ⊛ ‵ (fhide (loan_shares p x.held x.life κ)))
-    (lent_out 𝓛 loan.struct loan.the_codes loan.the_heap loan.the_lent κ x b o) $ split ! $
-    move ! (1 ∷ []) $ unhide ! $ rewrite ! 0 (λ (has' : Option R.Denot). ‵ (loan_shares p has' x.life κ)) is refl $
-    use1 𝓛 (‵ (lent_at R p v κ))
-    (part_sees (lent_at R p v) (lent_at_shr_laws R stored.the_row_laws.shr_laws p v) 𝓛 x.life κ) $
-    fsplit ! $ use1 𝓛 (raw (fact 𝓤 (InBlock p))) (in_block_says 𝓛 p) $ heard ! (InBlock p) (λ inb. hide ! $
-    move ! (1 ∷ 2 ∷ []) $
+    (lent_out 𝓛 loan.struct loan.the_codes loan.the_heap loan.the_lent κ x b o) $ split ! $ move ! (1 ∷ []) $ unhide ! $
+    rewrite ! 0 (λ (has' : Option R.Denot). ‵ (loan_shares p has' x.life κ)) is refl $ use1 𝓛 (‵ (lent_at R p v κ))
+    (part_sees (lent_at R p v) (lent_at_shr_laws R stored.the_row_laws.shr_laws p v) 𝓛 x.life κ) $ fsplit ! $ use1 𝓛
+    (raw (fact 𝓤 (InBlock p))) (in_block_says 𝓛 p) $ heard ! (InBlock p) (λ inb. hide ! $ move ! (1 ∷ 2 ∷ []) $
     looks ! tt Data (opened 𝓛) (p, tt) b o (λ q vs. move ! (1 ∷ []) $
     peeks ! Data (Is Data) (shows 𝓛 Data) (p, tt) vs (λ so.
     let ev : vs ≡ lone_val (block_ptr (block_of p) (count_of p)) ∷ [] =
     told p vs so ∙ ap (λ (r : Ptr). lone_val r ∷ []) (at_block p inb) in
-    rewrite ! 1 (λ (ws : List Val). ‵ (cell_at q Data.mir ws b o)) ev refl $ first ! $ blocks ! $
-    sets ! (of_opd ! (load ! (through ! refl (fld ! refl (stop !)))
-    (look_in ! 1 (sub ! 0 refl (whole !))))) refl (tt, tt) $
-    sets ! (of_opd ! (get ! refl)) refl (tt, tt) $
-    sets_last ! (addr ! (through ! refl (stop !))) refl (tt, tt) $
-    exec ! 𝓣.C 𝓣.Λ Ev (tail fn.body) (at_ret Ev Post) $ sets ! (of_opd ! (get ! refl)) refl (tt, tt) $
-    rewrite ! 1 (λ (ws : List Val). ‵ (cell_at q Data.mir ws b o)) (sym ev) refl $ move ! (1 ∷ 0 ∷ 2 ∷ []) $
-    shuts ! tt Data q (p, tt) vs b o $ move ! (0 ∷ 3 ∷ []) $ join ! $
-    move ! (2 ∷ []) $ feq_i ! (List Val) (there ∷ []) (there ∷ []) refl $ fjoin ! $
-    use0 𝓛 (raw (fact 𝓤 (x.held ≡ Some v))) (fact_i 𝓤 (x.held ≡ Some v) (emp 𝓤) is) $ nothing ! $ nothing ! $
-    fjoin ! $ returns ! (look_at ! 0 refl) $ free_all ! refl $ keep ! (3 ∷ 0 ∷ 2 ∷ 1 ∷ []) $
-    by ! (leaves 𝓛 ended stays c z there
-    (record { ref_ptr = (block_of p, count_of p); now = v }) (tt, tt) (tt, tt)))))))))
+    rewrite ! 1 (λ (ws : List Val). ‵ (cell_at q Data.mir ws b o)) ev refl $ first ! $ blocks ! $ sets !
+    (of_opd ! (load ! (through ! refl (fld ! refl (stop !))) (look_in ! 1 (sub ! 0 refl (whole !))))) refl (tt, tt) $
+    sets ! (of_opd ! (get ! refl)) refl (tt, tt) $ sets_last ! (addr ! (through ! refl (stop !))) refl (tt, tt) $ exec !
+    𝓣.C 𝓣.Λ Ev (tail fn.body) (at_ret Ev Post) $ sets ! (of_opd ! (get ! refl)) refl (tt, tt) $ rewrite ! 1
+    (λ (ws : List Val). ‵ (cell_at q Data.mir ws b o)) (sym ev) refl $ move ! (1 ∷ 0 ∷ 2 ∷ []) $ shuts ! tt Data q
+    (p, tt) vs b o $ move ! (0 ∷ 3 ∷ []) $ join ! $ move ! (2 ∷ []) $ feq_i ! (List Val) (there ∷ []) (there ∷ []) refl
+    $ fjoin ! $ use0 𝓛 (raw (fact 𝓤 (x.held ≡ Some v))) (fact_i 𝓤 (x.held ≡ Some v) (emp 𝓤) is) $ nothing ! $ nothing !
+    $ fjoin ! $ returns ! (look_at ! 0 refl) $ free_all ! refl $ keep ! (3 ∷ 0 ∷ 2 ∷ 1 ∷ []) $ by !
+    (leaves 𝓛 ended stays c z there (record { ref_ptr = (block_of p, count_of p); now = v }) (tt, tt) (tt, tt)))))))))

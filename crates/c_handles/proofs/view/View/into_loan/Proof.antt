@@ -25,15 +25,13 @@ into_loan_spec 𝓤 𝓛 𝓜 𝓡 wired =
     let c = clauses 𝓛 𝓜.mem 𝓡.returns in
     let fn : Fn = compiled.function in
     let stays : Stays ended.signature.params ended.kept = (
-      stay_dropped (plain
-          (λ _. view.the_row)) ended.kept.0,
+      stay_dropped (plain (λ _. view.the_row)) ended.kept.0,
       tt,
     ) in
     let C = (tables 𝓤 H 𝓜 𝓡 𝓡.env).C in
     let Λ = (tables 𝓤 H 𝓜 𝓡 𝓡.env).Λ in
     proved_at 𝓛 ended stays c 𝓜 𝓡 (
-      Goes-blank 𝓛 0 (plain (λ _. view.the_row)) ended.kept.0
-          (λ κs x f. tt),
+      Goes-blank 𝓛 0 (plain (λ _. view.the_row)) ended.kept.0 (λ κs x f. tt),
       tt,
     ) #self fn (compiled.unfolded 𝓤 H 𝓜 𝓡 wired) (λ z are.
     let Post : Val → SProp 𝓤 = (walk_of 𝓛 ended stays c).post z in
@@ -45,11 +43,10 @@ into_loan_spec 𝓤 𝓛 𝓜 𝓡 wired =
     let left : Left.Denot = record { at = p; held = x.held; life = x.life; parts = x.parts } in
     let made = pair_val (vbool t) (lone_val p) in
     qed 𝓛 ((raw (alive 𝓛 ended.signature z.0.0 z.0.1) ⊛ ‵ (owns
-    (types_at ended.signature.params z.0.0) z.0.3 z.0.4)) ∷ ‵ ftrue ∷ []) ∵
-    move ! (1 ∷ []) $ drop ! $ split ! $ move ! (1 ∷ []) $ fsplit ! $ fsplit ! $ drop ! $ move ! (1 ∷ []) $ drop ! $
-    regoal ! (λ (us : List Val). prop (WpFn 𝓤 H C Λ fn us Post)) (λ i. told i ++ []) refl $
-    enter ! C Λ fn (flagged_val p t ∷ []) Post $
-    alloc_all ! (λ l. pass_all ! refl (flagged_typed p t, tt) $
+    (types_at ended.signature.params z.0.0) z.0.3 z.0.4)) ∷ ‵ ftrue ∷ []) ∵ move ! (1 ∷ []) $ drop ! $ split ! $ move !
+    (1 ∷ []) $ fsplit ! $ fsplit ! $ drop ! $ move ! (1 ∷ []) $ drop ! $ regoal !
+    (λ (us : List Val). prop (WpFn 𝓤 H C Λ fn us Post)) (λ i. told i ++ []) refl $ enter ! C Λ fn (flagged_val p t ∷ [])
+    Post $ alloc_all ! (λ l. pass_all ! refl (flagged_typed p t, tt) $
     sets ! (of_opd ! (get_in ! (fld ! refl (stop !)) (sub ! 0 refl (whole !)))) refl (ptr_typed p) $
     sets ! (of_opd ! (get_in ! (fld ! refl (stop !)) (sub ! 1 refl (whole !)))) refl (tt, tt) $
     sets ! (agg ! (and_then ! (get ! refl) (no_more !))) refl (lone_typed p) $

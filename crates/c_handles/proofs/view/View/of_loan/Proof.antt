@@ -40,8 +40,7 @@ of_loan_spec 𝓤 𝓛 𝓜 𝓡 wired =
     let p = x.at in
     let told = lone_told p z.0.4.1.0 are.1.0.0 in
     qed 𝓛 ((raw (alive 𝓛 ended.signature z.0.0 z.0.1) ⊛ ‵ (owns (types_at ended.signature.params z.0.0) z.0.3 z.0.4))
-    ∷ raw (fact 𝓤 (t ≡ is_some x.held)) ∷ []) ∵
-    move ! (1 ∷ []) $ heard ! (t ≡ is_some x.held) (λ opened.
+    ∷ raw (fact 𝓤 (t ≡ is_some x.held)) ∷ []) ∵ move ! (1 ∷ []) $ heard ! (t ≡ is_some x.held) (λ opened.
     let made : (view.the_row).Denot = record {
       at = p;
       is_open = t;
@@ -50,10 +49,9 @@ of_loan_spec 𝓤 𝓛 𝓜 𝓡 wired =
       life = x.life;
       parts = x.parts;
     } in
-    split ! $ move ! (1 ∷ []) $ fsplit ! $ drop ! $ fsplit ! $ fsplit ! $ drop ! $ move ! (1 ∷ []) $ drop ! $
-    regoal ! (λ (us : List Val). prop (WpFn 𝓤 H C Λ fn us Post)) (λ i. are.0 i ++ (told i ++ [])) refl $
-    enter ! C Λ fn (vbool t ∷ lone_val p ∷ []) Post $
-    alloc_all ! (λ l. pass_all ! refl ((tt, tt), (lone_typed p, tt)) $
+    split ! $ move ! (1 ∷ []) $ fsplit ! $ drop ! $ fsplit ! $ fsplit ! $ drop ! $ move ! (1 ∷ []) $ drop ! $ regoal !
+    (λ (us : List Val). prop (WpFn 𝓤 H C Λ fn us Post)) (λ i. are.0 i ++ (told i ++ [])) refl $ enter ! C Λ fn
+    (vbool t ∷ lone_val p ∷ []) Post $ alloc_all ! (λ l. pass_all ! refl ((tt, tt), (lone_typed p, tt)) $
     sets ! (of_opd ! (get_in ! (fld ! refl (stop !)) (sub ! 0 refl (whole !)))) refl (ptr_typed p) $
     sets ! (agg ! (and_then ! (get ! refl) (and_then ! (get ! refl) (no_more !)))) refl (flagged_typed p t) $
     returns ! (look_at ! 0 refl) $ free_all ! refl $

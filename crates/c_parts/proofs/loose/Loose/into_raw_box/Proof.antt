@@ -43,8 +43,7 @@ into_raw_box_spec 𝓤 𝓛 𝓜 𝓡 wired T L =
     proved_at 𝓛 En stays c 𝓜 𝓡 (
       Goes-blank 𝓛 1 (plain (λ _. loose.the_row R)) En.kept.0 (λ κs x f. tt),
       (Goes-blank 𝓛 1 (plain (λ _. Heap.the_row)) En.kept.1.0 (λ κs x f. tt), tt),
-    ) (#self inst) fn
-    (compiled.unfolded 𝓤 H 𝓜 𝓡 wired (T, tt)) (λ z are.
+    ) (#self inst) fn (compiled.unfolded 𝓤 H 𝓜 𝓡 wired (T, tt)) (λ z are.
     let Post : Val → SProp 𝓤 = (walk_of 𝓛 En stays c).post z in
     let κs = z.0.0 in
     let x = z.0.3.0 in
@@ -52,10 +51,9 @@ into_raw_box_spec 𝓤 𝓛 𝓜 𝓡 wired T L =
     let told = lone_told p z.0.4.0 are.0.0 in
     qed 𝓛 ((raw (alive 𝓛 En.signature κs z.0.1) ⊛ ‵ (owns
     (types_at En.signature.params κs) z.0.3 z.0.4)) ∷ raw (fact 𝓤 (κs.0 ⊑ T.lives)) ∷ raw (fact 𝓤 (x.held ≢ None))
-    ∷ []) ∵
-    move ! (2 ∷ []) $ heard ! (x.held ≢ None) (λ has. split ! $ move ! (1 ∷ []) $ fsplit ! $ fsplit ! $ drop ! $
-    move ! (1 ∷ []) $ fsplit ! $ move ! (1 ∷ []) $ drop ! $
-    handle_tells (al R Heap.the_row heap.the_row_laws ghosts) ! z.0.3.1.0 z.0.4.1.0 (λ h eh fits. move ! (1 ∷ []) $
+    ∷ []) ∵ move ! (2 ∷ []) $ heard ! (x.held ≢ None) (λ has. split ! $ move ! (1 ∷ []) $ fsplit ! $ fsplit ! $ drop ! $
+    move ! (1 ∷ []) $ fsplit ! $ move ! (1 ∷ []) $ drop ! $ handle_tells (al R Heap.the_row heap.the_row_laws ghosts) !
+    z.0.3.1.0 z.0.4.1.0 (λ h eh fits. move ! (1 ∷ []) $
     some_of x.held has (λ v es. rewrite ! 0 (λ (s : Option R.Denot). ‵ (handle_owns R p s)) es refl $
     in_a_block ! p (λ (q : Ptr). box_owns (ghosts.dealloc_token global) R q v) (fst∗ 𝓤 (never 𝓤) (sem 𝓛
     (ghosts.dealloc_token global (bare (lone R.mir)) null_ptr))) (λ b o e.
@@ -64,14 +62,13 @@ into_raw_box_spec 𝓤 𝓛 𝓜 𝓡 wired T L =
       alloc = z.0.3.1.0;
       value = v;
     } in
-    regoal ! (λ (us : List Val). prop (WpFn 𝓤 H C Λ fn us Post)) (λ i. told i ++ (eh i ++ [])) refl $
-    regoal ! (λ (q : Ptr). prop (WpFn 𝓤 H C Λ fn (lone_val q ∷ h ∷ []) Post)) e refl $
-    enter ! C Λ fn (lone_val (block_ptr b o) ∷ h ∷ []) Post $
-    alloc_all ! (λ l. pass_all ! refl (lone_typed (block_ptr b o), (fits, tt)) $
+    regoal ! (λ (us : List Val). prop (WpFn 𝓤 H C Λ fn us Post)) (λ i. told i ++ (eh i ++ [])) refl $ regoal !
+    (λ (q : Ptr). prop (WpFn 𝓤 H C Λ fn (lone_val q ∷ h ∷ []) Post)) e refl $ enter ! C Λ fn
+    (lone_val (block_ptr b o) ∷ h ∷ []) Post $ alloc_all !
+    (λ l. pass_all ! refl (lone_typed (block_ptr b o), (fits, tt)) $
     sets ! (of_opd ! (get_in ! (fld ! refl (stop !)) (sub ! 0 refl (whole !)))) refl (tt, tt) $
     sets ! (agg ! (and_then ! (get ! refl) (and_then ! (get ! refl) (no_more !)))) refl
-    (loose_good R Heap.the_row heap.the_row_laws ghosts b o h fits) $
-    returns ! (look_at ! 0 refl) $ free_all ! refl $
+    (loose_good R Heap.the_row heap.the_row_laws ghosts b o h fits) $ returns ! (look_at ! 0 refl) $ free_all ! refl $
     loose_in R Heap.the_row heap.the_row_laws ghosts ! b o h z.0.3.1.0 v $
     use0 𝓛 (raw (fact 𝓤 (x.held ≡ Some v))) (fact_i 𝓤 (x.held ≡ Some v) (emp 𝓤) es) $
     nothing ! $ nothing ! $ fjoin ! $ nothing ! $ fjoin ! $ keep ! (3 ∷ 0 ∷ 2 ∷ 1 ∷ []) $

@@ -30,7 +30,6 @@ loop-url-preserved c =
     }
 
 pub returns-clause-does : goal.returns-clause-does
-returns-clause-does c =
-    subst (λ (l : List Parts). DoAll (settings_of c.args.self.now) (removals (map serialize l))
+returns-clause-does c = subst (λ (l : List Parts). DoAll (settings_of c.args.self.now) (removals (map serialize l))
     (kept_of c.args.self.now) (kept_of c.loop-url.self))
     (take_all c.loop-url.url-index c.args.urls.now c.loop-url-test.false) c.loop-url.invariant.does

@@ -5,8 +5,7 @@ use Rattle.cache_pass.proofs.{ReplyLemmas.{not-shown, shows-after}, RightLemmas.
 use Rattle.cache_pass.proofs.cache.Cache.revalidated.Goals as goal
 
 pub returns-in-Some-clause-next : goal.returns-in-Some-clause-next
-returns-in-Some-clause-next c =
-    shows-after (settings_of c.args.self.now) c.args.key.now (request_of c.args.request.now)
+returns-in-Some-clause-next c = shows-after (settings_of c.args.self.now) c.args.key.now (request_of c.args.request.now)
     (lines_at c.args.update.now) c.args.exchange (kept_of c.args.self.now)
     (kept_of (record c.args.self.now { store = c.freshen.new.self })) c.in-Ok-Stored.number
     (rw c.in-Ok-Stored.field-0-is at c.in-Ok-Stored.ensures.ok) c.in-Some.reply
@@ -17,8 +16,7 @@ returns-in-None-clause-next c =
     let cache : Cache = record c.args.self.now { store = c.freshen.new.self } in
     let restored : IsRestored (settings_of c.args.self.now).policy c.args.key.now (request_of c.args.request.now)
     (lines_at c.args.update.now) c.args.exchange (contents_of c.args.self.now.store) (contents_of cache.store)
-    c.in-Ok-Stored.number =
-    rw c.in-Ok-Stored.field-0-is at c.in-Ok-Stored.ensures.ok in
+    c.in-Ok-Stored.number = rw c.in-Ok-Stored.field-0-is at c.in-Ok-Stored.ensures.ok in
     inr (inr (not-shown {x = restored.fresh}
     (restored-named (settings_of c.args.self.now) cache c.args.key.now (request_of c.args.request.now)
     (lines_at c.args.update.now) c.args.exchange (contents_of c.args.self.now.store) c.in-Ok-Stored.number restored)

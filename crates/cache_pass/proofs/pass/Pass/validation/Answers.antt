@@ -11,8 +11,7 @@ same_values (x ∷ xs) (y ∷ ys) h = cc (h.0, same_values xs ys h.1)
 
 -- a clone of a map is equal to it
 same_map : (old new : Entries FieldValue) → IsMapClone (λ (value copy : FieldValue). copy ≡ value) old new → new ≡ old
-same_map old new h =
-    entries_from_clone (λ (x y : List ℕ). y ≡ x) (AllZip (λ (value copy : FieldValue). copy ≡ value))
+same_map old new h = entries_from_clone (λ (x y : List ℕ). y ≡ x) (AllZip (λ (value copy : FieldValue). copy ≡ value))
     (λ x y e. e) same_values old new h
 
 pub returns-in_err-set_fields-clause-full : goal.returns-in_err-set_fields-clause-full

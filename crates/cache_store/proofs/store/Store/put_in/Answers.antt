@@ -9,8 +9,7 @@ invariant_of-self c =
     c.in-Some.ensures.0 ∙ ap (bytes_at c.args.target.now) c.deref.ensures.value in
     let are = c.args.self.now.counted in
     let put = put-absent c.args.target.now c.args.self.now.targets.entries c.put.new.self.entries
-    c.args.self.now.targets.cap c.in_ok-key.key c.args.kept
-    c.in_ok-key.ensures.ok c.requires.absent (omega (
+    c.args.self.now.targets.cap c.in_ok-key.key c.args.kept c.in_ok-key.ensures.ok c.requires.absent (omega (
       arith,
       c.len-targets.ensures.len,
       c.len-targets.ensures.fits,
@@ -24,11 +23,9 @@ invariant_of-self c =
     }
 
 pub returns-in-Ok-clause-ok : goal.returns-in-Ok-clause-ok
-returns-in-Ok-clause-ok c =
-    some-put _ _ _ (grind (arith, c.if-is_empty.false, c.is_empty.ensures, c.args.kept.ok.0))
+returns-in-Ok-clause-ok c = some-put _ _ _ (grind (arith, c.if-is_empty.false, c.is_empty.ensures, c.args.kept.ok.0))
     (put-absent c.args.target.now c.args.self.now.targets.entries c.put.new.self.entries c.args.self.now.targets.cap
-    c.in_ok-key.key c.args.kept
-    c.in_ok-key.ensures.ok c.requires.absent (omega (
+    c.in_ok-key.key c.args.kept c.in_ok-key.ensures.ok c.requires.absent (omega (
       arith,
       c.len-targets.ensures.len,
       c.len-targets.ensures.fits,

@@ -27,10 +27,8 @@ invariant_of-self c =
       unbounded = ap (λ m. m.cap) c.pop_lru.ensures.entries ∙ c.args.self.now.unbounded;
       counted = rw (
         c.len.ensures ∙ c.in-Some.responses.ok.0,
-        rw (c.as_str.ensures.value, c.deref.ensures.value) at
-            c.bytes_at.ensures,
-      )
-          (counted-less c.args.self.now.counted (shown_entry (c.in-Some.target, c.in-Some.responses))
+        rw (c.as_str.ensures.value, c.deref.ensures.value) at c.bytes_at.ensures,
+      ) (counted-less c.args.self.now.counted (shown_entry (c.in-Some.target, c.in-Some.responses))
           (λ m none. counts m));
     }
 

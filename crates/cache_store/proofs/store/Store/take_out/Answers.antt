@@ -21,8 +21,7 @@ overflow_sub-self-2 c = let counts = c.bytes_at.ensures ∙ ap (bytes_at c.args.
 pub invariant_of-self : goal.invariant_of-self
 invariant_of-self c = record {
   unbounded = c.popped-taken.ensures.cap ∙ c.args.self.now.unbounded;
-  counted =
-      rw (c.len.ensures ∙ c.popped-taken.result.ok.0) (rw (c.bytes_at.ensures ∙ ap (bytes_at c.args.target.now)
+  counted = rw (c.len.ensures ∙ c.popped-taken.result.ok.0) (rw (c.bytes_at.ensures ∙ ap (bytes_at c.args.target.now)
       c.deref.ensures.value) (counted-less c.args.self.now.counted
       (c.args.target.now, c.popped-taken.result.items) c.popped-taken.ensures.counts));
 }

@@ -11,29 +11,22 @@ returns c =
     let done = c.in_ok-done.done in
     record {
       at = c.target_of-target.result;
-      is_at =
-          subst (λ (path : List ℕ). IsTarget routes.router path c.target_of-target.result)
-          (c.path.ensures.value ∙ ap (λ (uri : Uri). uri_path uri) c.uri.ensures)
-          c.target_of-target.ensures;
+      is_at = subst (λ (path : List ℕ). IsTarget routes.router path c.target_of-target.result)
+          (c.path.ensures.value ∙ ap (λ (uri : Uri). uri_path uri) c.uri.ensures) c.target_of-target.ensures;
       text = c.in_ok-text.text;
       is_text = c.in_ok-text.ensures;
       answer = answer;
-      answers =
-          subst
+      answers = subst
           (λ (text : Option Note). IsAnswerAt routes.nowhere routes.server_wide c.target_of-target.result text
-          c.args.request.now answer)
-          c.as_ref.ensures.value c.in_ok-answer.ensures;
+          c.args.request.now answer) c.as_ref.ensures.value c.in_ok-answer.ensures;
       done = done;
       does = c.in_ok-done.ensures;
       date = c.now-date.result;
       status = c.add_fields.ensures.status ∙ c.add_content.ensures.status;
-      carries =
-          subst (λ (sent : List Field). Carries sent c.add_fields.new.plan)
-          (c.in_ok-sent.ensures
+      carries = subst (λ (sent : List Field). Carries sent c.add_fields.new.plan) (c.in_ok-sent.ensures
           ∙ ap (λ (fields : List Field). date_fields c.now-date.result ++ fields)
           (ap (λ (fields : List Encoded). fields_of fields) c.in_ok-append.ensures.items
-          ∙ map-append field_of answer.fields.items done.fields.items))
-          c.in_ok-add_fields.ensures.headers;
+          ∙ map-append field_of answer.fields.items done.fields.items)) c.in_ok-add_fields.ensures.headers;
       content = c.add_fields.ensures.pieces ∙ c.in_ok-add_content.ensures.pieces;
       routes = refl;
     }

@@ -17,8 +17,7 @@ returns c =
       c.next.ensures,
       elim c.match-next.branch [
         | in-Rejected w ↦ subst (λ (e : StreamEvent). EndsIdleAs old e new) (sym w.in-Rejected.is)
-            (subst (λ (m : GatewayConnection). Answers old Because.LateRequest m) (sym w.self-is)
-            w.answer_own.ensures)
+            (subst (λ (m : GatewayConnection). Answers old Because.LateRequest m) (sym w.self-is) w.answer_own.ensures)
         | in_default w ↦ closes old c.next.result new w.in_default.not-Rejected w.self-is
       ],
     )

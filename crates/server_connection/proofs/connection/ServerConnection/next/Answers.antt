@@ -9,8 +9,7 @@ pub loop-spans-preserved : goal.loop-spans-preserved
 loop-spans-preserved g c = λ now. leads_then (c.loop-spans.invariant now) (c.step.ensures.leads now)
 
 pub returns-clause-moves : goal.returns-clause-moves
-returns-clause-moves g c = λ now.
-    moves_steps (leads_then (c.loop-spans.invariant now) (c.step.ensures.leads now))
+returns-clause-moves g c = λ now. moves_steps (leads_then (c.loop-spans.invariant now) (c.step.ensures.leads now))
 
 pub returns-clause-ended : goal.returns-clause-ended
 returns-clause-ended g c = λ now. (leads_then (c.loop-spans.invariant now) (c.step.ensures.leads now)).ended

@@ -44,8 +44,7 @@ returns-in-Err-clause-reaches c = λ p x.
           (w.abort-in-OutOfMemory.ensures.reaches p (may_abort _ (moved x.0 _ _ k.server k.head k.body) work (inl x.1)))
       | in_default-e w ↦
           let why = invalid_part k c.args.spans.now c.args.head.now x _ frozen.front c.in-Err.e
-          w.in_default-e.not-OutOfMemory
-          c.in-Err.ensures.err in
+          w.in_default-e.not-OutOfMemory c.in-Err.ensures.err in
           rw w.self-is (w.refuse-in_default-e.ensures.reaches p (moved x.0 _ _ _ _ _, (x.1, why), work))
     ]
 
@@ -54,8 +53,7 @@ returns-clause-reaches c = λ p x.
     let k = core c.args.self.now p in
     let frozen = c.in-Ok.ensures in
     let body = opened k c.args.spans.now c.args.head.now x _ frozen.front _ _ frozen.rest.0
-    c.in-Ok-fill_request.ensures.ok
-    continue_text (λ _. refl) (head_hosts k c.args.spans.now c.args.head.now x
+    c.in-Ok-fill_request.ensures.ok continue_text (λ _. refl) (head_hosts k c.args.spans.now c.args.head.now x
     (subst (Hosts c.args.head.now.headers c.args.spans.now) c.as_slice.ensures
     (c.are_hosts.ensures.0 c.if-not-are_hosts.false)))
     (uncoded_head k c.args.spans.now c.args.head.now x (sym c.has_codings.ensures ∙ c.if-has_codings.false)) in
@@ -84,8 +82,7 @@ returns-in-Ok-extend_from_slice-clause-reaches c = λ p x.
     let k = core c.args.self.now p in
     let frozen = c.in-Ok.ensures in
     let body = opened k c.args.spans.now c.args.head.now x _ frozen.front _ _ frozen.rest.0
-    c.in-Ok-fill_request.ensures.ok
-    continue_text (λ _. refl) (head_hosts k c.args.spans.now c.args.head.now x
+    c.in-Ok-fill_request.ensures.ok continue_text (λ _. refl) (head_hosts k c.args.spans.now c.args.head.now x
     (subst (Hosts c.args.head.now.headers c.args.spans.now) c.as_slice.ensures
     (c.are_hosts.ensures.0 c.if-not-are_hosts.false)))
     (uncoded_head k c.args.spans.now c.args.head.now x (sym c.has_codings.ensures ∙ c.if-has_codings.false)) in
@@ -100,8 +97,7 @@ returns-in-Ok-extend_from_slice-clause-reaches c = λ p x.
       serves = x.0.serves;
       interim = continue_text;
       is_interim = inr (refl, expecting k c.args.spans.now c.args.head.now x _ frozen.front waits);
-      out =
-          ap (λ (t : List ℕ). k.history.sent ++ t) c.in-Ok-extend_from_slice.ensures.ok ∙ sym
+      out = ap (λ (t : List ℕ). k.history.sent ++ t) c.in-Ok-extend_from_slice.ensures.ok ∙ sym
           (append_assoc _ _ continue_text)
           ∙ ap (λ (t : List ℕ). t ++ continue_text) before;
     }) _ x.1 refl (body, fits))
@@ -116,13 +112,11 @@ pub returns-in_default-clause-puts : goal.returns-in_default-clause-puts
 returns-in_default-clause-puts c = λ p x. inr (inr (inr (c.abort.ensures.state, c.abort.ensures.output)))
 
 pub returns-in-Err-clause-puts : goal.returns-in-Err-clause-puts
-returns-in-Err-clause-puts c = λ p x.
-    elim c.match-e.branch [
-      | in-OutOfMemory w ↦
-          rw w.self-is
-          (inr (inr (inr (w.abort-in-OutOfMemory.ensures.state, w.abort-in-OutOfMemory.ensures.output))))
-      | in_default-e w ↦ rw w.self-is (inr (refused_on refl w.refuse-in_default-e.ensures.puts))
-    ]
+returns-in-Err-clause-puts c = λ p x. elim c.match-e.branch [
+  | in-OutOfMemory w ↦
+      rw w.self-is (inr (inr (inr (w.abort-in-OutOfMemory.ensures.state, w.abort-in-OutOfMemory.ensures.output))))
+  | in_default-e w ↦ rw w.self-is (inr (refused_on refl w.refuse-in_default-e.ensures.puts))
+]
 
 pub returns-clause-puts : goal.returns-clause-puts
 returns-clause-puts c = λ p x. inr (refused_on refl c.refuse-2.ensures.puts)
@@ -135,8 +129,7 @@ returns-in-Ok-extend_from_slice-clause-puts c = λ p x.
       state = refl;
       output = c.in-Ok-extend_from_slice.ensures.ok;
       has_head = refl;
-      expects =
-          subst (ExpectsContinue k.config.limits) (sym x.2.0)
+      expects = subst (ExpectsContinue k.config.limits) (sym x.2.0)
           (expecting k c.args.spans.now c.args.head.now x _ c.in-Ok.ensures.front waits);
     })
 

@@ -9,8 +9,7 @@ returns g c = λ before now.
     let old = c.args.self.now in
     let new = c.abort.new.self in
     let abort = c.abort.ensures in
-    step_answers old new before now abort.keeps.config abort.keeps.ended c.requires
-    (λ first p chain laid x.
+    step_answers old new before now abort.keeps.config abort.keeps.ended c.requires (λ first p chain laid x.
     let k = core_asking old p in
     runs_aborted plans gives first before now old new p x.base.is_open abort.keeps.config abort.keeps.phase
     (abort.state, abort.output) chain laid

@@ -19,15 +19,12 @@ returns g c = λ before now planned.
       request = c.release.new.request;
     } in
     elim c.start.ensures [
-      | inl begun ↦ step_answers old new before now begun.config begun.ended c.requires
-          (λ first p chain laid x.
+      | inl begun ↦ step_answers old new before now begun.config begun.ended c.requires (λ first p chain laid x.
           let k = core_asking old p in
           let are = subst (ArePartsOf x.message.head) (headed old.has_head (head_of old.request) x.parts x.head)
           x.are_parts in
-          let kind : c.is_head-is_head.result ≡ is_head (method_kind x.message.head.method) =
-          c.is_head-is_head.ensures
-          ∙ ap (λ (m : List ℕ). is_head (method_kind m))
-          (c.method.ensures ∙ are.method) in
+          let kind : c.is_head-is_head.result ≡ is_head (method_kind x.message.head.method) = c.is_head-is_head.ensures
+          ∙ ap (λ (m : List ℕ). is_head (method_kind m)) (c.method.ensures ∙ are.method) in
           runs_by plans gives first now new p begun.phase (
             before,
             chain,
@@ -36,8 +33,7 @@ returns g c = λ before now planned.
                 (begins plans gives first before now k x laid old.request are refl c.args.plan planned
                 c.is_head-is_head.result kind new.server new.output.items new.tail.items begun.frames),
           ))
-      | inr over ↦ step_answers old new before now over.config over.ended c.requires
-          (λ first p chain laid x.
+      | inr over ↦ step_answers old new before now over.config over.ended c.requires (λ first p chain laid x.
           let k = core_asking old p in
           runs_aborted plans gives first before now old new p x.base.is_open over.config over.phase
           (over.state, over.output) chain laid

@@ -13,8 +13,7 @@ invariant_of-result-clause-are_listable c =
     (all_listable c.args.names.items))
 
 pub invariant_of-result-clause-is_page : goal.invariant_of-result-clause-is_page
-invariant_of-result-clause-is_page c =
-    c.in_ok-page-2.ensures
+invariant_of-result-clause-is_page c = c.in_ok-page-2.ensures
     ∙ c.in_ok-from_vec.ensures.ok
     ∙ c.in_ok-page.ensures
     ∙ ap (λ (f : List ℕ). listing_page f (map string_bytes c.deref.result.now)) c.as_str.ensures.value

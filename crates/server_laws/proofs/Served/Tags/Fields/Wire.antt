@@ -237,9 +237,9 @@ module _ (limits : Limits) (h : RequestHead) (framing : Framing) (plan : Respons
       let made = stated_plan s.request 200 n hs short true states final (inl refl) in
       let late : (false || (is_connect (method_kind h.method) && nat_lt 200 300)) ≡ false = final.connect in
       let is = (λ i. response_plan s (status i) (plan_size plan) (fields_are i)) ∙ cond-false _ _ _ late ∙ made in (
-        (λ i. response_text (minor i) (status i) (reason_of (status i)) (planned_headers (is i) (fields_are i))) ∙ ap (λ
-            (extra : List Header). response_text 1 200 (reason_of 200) (hs ++ extra)) (quiet _ n media_type s.request now
-            minor keeps refl) ∙ printed tag n media_type now,
+        (λ i. response_text (minor i) (status i) (reason_of (status i)) (planned_headers (is i) (fields_are i)))
+            ∙ ap (λ (extra : List Header). response_text 1 200 (reason_of 200) (hs ++ extra))
+            (quiet _ n media_type s.request now minor keeps refl) ∙ printed tag n media_type now,
         ap (λ (q : Result WirePlan WriteError). writing (responding s q)) is,
       )
 

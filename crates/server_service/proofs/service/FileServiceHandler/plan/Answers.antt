@@ -26,10 +26,8 @@ returns-in-Some g c =
     let first = c.in_ok-put_closing.ensures.headers ∙ ap (λ (l : List Header). l ++ closing_fields left) sniff in
     let time : c.clock-present.result ≡ clock now found.files.items =
     c.clock-present.ensures ∙ ap (clock now) c.deref.ensures.value in
-    let Answered : Option ℕ → Type 0 =
-    λ time.
-    IsAnswerAt time left site (g.S.FileStore.has c.args.self.now.store) c.args.request.now response
-    c.source_sent.result in (
+    let Answered : Option ℕ → Type 0 = λ time. IsAnswerAt time left site (g.S.FileStore.has c.args.self.now.store)
+    c.args.request.now response c.source_sent.result in (
       (
         c.now.result,
         subst Answered c.date_of-date.ensures
@@ -40,13 +38,10 @@ returns-in-Some g c =
               subst (λ (a : Option Line). IsAsked c.args.request.now a asked)
                   (bytes_copied c.as_ref.result c.in_ok-authority.authority c.as_ref.ensures.value)
                   c.asked-head.ensures,
-            )
-            c.in-Some.ensures
-            (subst
-            (λ (h : List Header).
+            ) c.in-Some.ensures (subst (λ (h : List Header).
             Carries h site (file ∷ []) 200 (Planned (Some 0) Full) (whole_fields c.clock-present.result file) response)
-            first c.in_ok-carry_whole.ensures)
-            (c.source_sent.ensures ∙ ap (source_sent found.files.items) c.all_sent.ensures)),
+            first c.in_ok-carry_whole.ensures) (c.source_sent.ensures ∙ ap (source_sent found.files.items)
+            c.all_sent.ensures)),
         c.now.ensures,
       ),
       record { cache_control = refl; divider = refl; pages = refl; resource = refl },
@@ -66,8 +61,7 @@ returns g c =
     let code = status_for found.status answer.reason answer.status in
     let given = encoded_fields answer.fields.items in
     let asked = request_of c.asked-head.result in
-    let after : Site =
-    record {
+    let after : Site = record {
       cache_control = site.cache_control;
       divider = site.divider;
       pages = site.pages;
@@ -82,63 +76,49 @@ returns g c =
     let time : c.clock-present.result ≡ clock now found.files.items =
     c.clock-present.ensures ∙ ap (clock now) c.deref.ensures.value in
     let cors : resource.cors ≡ site.resource.cors = ap (λ (r : Resource). r.cors) described.is in
-    let status =
-    c.status_for-status.ensures
+    let status = c.status_for-status.ensures
     ∙ ap (λ (n : ℕ). status_for n answer.reason answer.status) c.in_ok-describe.ensures.status in
-    let decides =
-    subst (λ (t : ℕ). Decides t (string_bytes site.divider) found.files.items resource asked answer)
-    time
+    let decides = subst (λ (t : ℕ). Decides t (string_bytes site.divider) found.files.items resource asked answer) time
     (subst
     (λ (d : List ℕ). Decides c.clock-present.result d found.files.items resource asked answer) c.as_str.ensures.value
-    (subst
-    (λ (l : List File). Decides c.clock-present.result c.as_str.result.now l resource asked answer)
+    (subst (λ (l : List File). Decides c.clock-present.result c.as_str.result.now l resource asked answer)
     (c.deref-2.ensures.value ∙ files) c.in_ok-reason.ensures.answers)) in
     let Carried : List Header → List File → ℕ → Type 0 =
     λ h l n. Carries h after l n answer.sends given c.carry.new.response in
-    let carries =
-    Carries-at (first_fields now left) site after found.files.items code answer.sends given c.carry.new.response refl
-    refl refl cors
-    (subst (λ (h : List Header). Carried h found.files.items code) first
+    let carries = Carries-at (first_fields now left) site after found.files.items code answer.sends given
+    c.carry.new.response refl refl refl cors (subst (λ (h : List Header). Carried h found.files.items code) first
     (subst (λ (n : ℕ). Carried before found.files.items n) status
     (subst (λ (l : List File). Carried before l c.status_for-status.result) (c.deref-3.ensures.value ∙ files)
     c.in_ok-carry.ensures))) in
-    let Answered : Option ℕ → Type 0 =
-    λ time.
-    IsAnswerAt time left site (g.S.FileStore.has c.args.self.now.store) c.args.request.now c.carry.new.response
-    c.source_sent-2.result in (
+    let Answered : Option ℕ → Type 0 = λ time. IsAnswerAt time left site (g.S.FileStore.has c.args.self.now.store)
+    c.args.request.now c.carry.new.response c.source_sent-2.result in (
       (
         told,
-        subst Answered c.date_of-date.ensures
-            (record {
-              found = found;
-              leads = c.in_ok-found.ensures;
-              resource = resource;
-              described =
-                  subst (λ (t : ℕ). IsDescribed t site.resource found resource) time described;
-              asked = asked;
-              asks = (
-                option_map (λ (it : FieldValue). it.bytes) c.in_ok-authority.authority,
-                c.in_ok-authority.ensures,
-                subst (λ (a : Option Line). IsAsked c.args.request.now a asked)
-                    (bytes_copied c.as_ref.result c.in_ok-authority.authority c.as_ref.ensures.value)
-                    c.asked-head.ensures,
-              );
-              answer = answer;
-              decides = decides;
-              carries = carries;
-              opens = c.source_sent-2.ensures ∙ ap (λ (l : List File). source_sent l answer.sends) files;
-            }),
+        subst Answered c.date_of-date.ensures (record {
+          found = found;
+          leads = c.in_ok-found.ensures;
+          resource = resource;
+          described = subst (λ (t : ℕ). IsDescribed t site.resource found resource) time described;
+          asked = asked;
+          asks = (
+            option_map (λ (it : FieldValue). it.bytes) c.in_ok-authority.authority,
+            c.in_ok-authority.ensures,
+            subst (λ (a : Option Line). IsAsked c.args.request.now a asked)
+                (bytes_copied c.as_ref.result c.in_ok-authority.authority c.as_ref.ensures.value) c.asked-head.ensures,
+          );
+          answer = answer;
+          decides = decides;
+          carries = carries;
+          opens = c.source_sent-2.ensures ∙ ap (λ (l : List File). source_sent l answer.sends) files;
+        }),
         c.now.ensures,
       ),
       record {
         cache_control = refl;
         divider = refl;
         pages = refl;
-        resource =
-            described.is
-            ∙ ap
-            (λ (r : Resource).
-            record site.resource { state = r.state; representations = r.representations })
+        resource = described.is
+            ∙ ap (λ (r : Resource). record site.resource { state = r.state; representations = r.representations })
             (sym described.is);
       },
       refl,

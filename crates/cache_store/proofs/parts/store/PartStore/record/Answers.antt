@@ -28,15 +28,13 @@ pub returns-in-Apart-clause-step : goal.returns-in-Apart-clause-step
 returns-in-Apart-clause-step c = recorded_step _ _ _ _ _ _ _ _ (returns-in-Apart-clause-recorded c) c.take.ensures.err
 
 pub returns-in-Stored-clause-recorded : goal.returns-in-Stored-clause-recorded
-returns-in-Stored-clause-recorded c =
-    IfOk-weaker c.keep.result _ _
+returns-in-Stored-clause-recorded c = IfOk-weaker c.keep.result _ _
     (kept_recorded (policy_of_parts c.args.self.now) (limits_of_parts c.args.self.now) c.args.key.now
     (parts_of c.args.self.now) c.args.came c.args.reception (parts_of c.keep.new.self) c.in-Stored.part (
       c.in-Some.extent,
       rw c.policy.ensures at c.in-Some.ensures.value,
       inr (rw c.in-Stored.is at c.in_ok-merged.ensures.merged),
-    ))
-    c.keep.ensures.kept
+    )) c.keep.ensures.kept
 
 pub returns-in-Stored-clause-memory : goal.returns-in-Stored-clause-memory
 returns-in-Stored-clause-memory c = combined_needs _ _ _ _ _ (rw c.policy.ensures at c.in-Some.ensures.value) _
@@ -54,13 +52,12 @@ returns-in-Once-clause-recorded c = (
 )
 
 pub returns-in-Apart-clause-full : goal.returns-in-Apart-clause-full
-returns-in-Apart-clause-full c = λ full.
-    inr (inr (
-      c.in-Some.extent,
-      rw c.policy.ensures at c.in-Some.ensures.value,
-      rw c.in-Apart.is at c.in_ok-merged.ensures.merged,
-      c.take.ensures.full full,
-    ))
+returns-in-Apart-clause-full c = λ full. inr (inr (
+  c.in-Some.extent,
+  rw c.policy.ensures at c.in-Some.ensures.value,
+  rw c.in-Apart.is at c.in_ok-merged.ensures.merged,
+  c.take.ensures.full full,
+))
 
 pub returns-in-Stored-clause-full : goal.returns-in-Stored-clause-full
 returns-in-Stored-clause-full c = λ full.
