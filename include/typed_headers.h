@@ -2172,8 +2172,10 @@ uint8_t typed_headers_gate_answer(struct typed_headers_gate *gate, uint16_t stat
 
 /*
  * Begins a response with these fields, and so many bytes of content, to the request that waits, also in place of the
- * origin's. Refused: none waits, the status is no number from 100 to 999, a line of the section before its first empty
- * one is no field, or the response can't be sent. Memory: the handle is open.
+ * origin's. Its Content-Length is the length of that content, whatever these fields state. To HEAD, and in a 304, it is
+ * the number that they state, if all its field lines state the same one. Refused: none waits, the status is no number
+ * from 100 to 999, a line of the section before its first empty one is no field, or the response can't be sent. Memory:
+ * the handle is open.
  */
 uint8_t typed_headers_gate_respond(struct typed_headers_gate *gate, uint16_t status, const uint8_t *section,
                                    size_t section_length, uint64_t length, const struct typed_headers_keys *keys);

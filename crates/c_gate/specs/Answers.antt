@@ -1,8 +1,9 @@
 -- How a request is answered.
-use Rattle.std.specs.Prelude.{◌≡◌, ◌⊎◌, ℕ, ◌==◌, ◌||◌, Bool, false, List, [], map, length, bytes_eq, codes}
-use Rattle.std.specs.Prelude.{if◌then◌else◌, Option, Some, None, Result, Ok, Err}
+use Rattle.std.specs.Prelude.{◌≡◌, ◌⊎◌, ℕ, ◌==◌, ◌||◌, ◌&&◌, Bool, true, false, not, List, [], ◌∷◌, ◌++◌, map, filter}
+use Rattle.std.specs.Prelude.{length, bytes_eq, codes, decimal, if◌then◌else◌, Option, Some, None, Result, Ok, Err}
+use Rattle.headers.specs.{ContentLength.content_length_reads, LineMap.lines_at, Lines.Line, Typed.ReadsNothing}
 use Rattle.{http.specs.StatusCode.IsStatusCode, http_header.specs.{FieldValue.FieldValue, HeaderMap.{Entries, pairs}}}
-use Rattle.http1.specs.{Conn.{data_refusal, finish_refusal}, Fields.Header, declared.conn.BodySize.BodySize}
+use Rattle.http1.specs.{Conn.{data_refusal, finish_refusal, is_empty}, Fields.Header, declared.conn.BodySize.BodySize}
 use Rattle.http1.specs.declared.{conn.BodySize.TheVariants.{Empty, Known}, error.WriteError.WriteError}
 use Rattle.{http1_typed.specs.Parts.reason_of, headers_section.specs.Section.Holds}
 use Rattle.server_stream.specs.Steps as Stream
@@ -42,10 +43,6 @@ WritesBy P Q old new (Ok tt) = Becomes P old new
 WritesBy P Q old new (Err failure) =
     (error : WriteError) × (failure ≡ write_failure error) × Becomes (λ before after. Q before error after) old new
 
--- each field line of a map
-abbrev pub header_lines : Entries FieldValue → List Header
-header_lines fields = map (λ line. (line.0, line.1.bytes)) (pairs fields)
-
 abbrev pub is_head : Option AskedRequest → Bool
 is_head (Some a) = bytes_eq a.head.method (codes "HEAD")
 is_head None = false
@@ -55,26 +52,58 @@ is_head None = false
 abbrev pub size_of : Option AskedRequest → ℕ → ℕ → BodySize
 size_of asked status length = if is_head asked || (status == 304) then Empty else Known length
 
-module _ (status length : ℕ) where
-  -- the head of a response with these fields is put
-  abbrev pub RespondsWith : Entries FieldValue → HeldGate → HeldGate → Result (Unit {0}) Failure → Type 0
-  RespondsWith fields old new = WritesBy
-      (λ before after. Gives before status (reason_of status) (header_lines fields)
-      (size_of before.asked status length) after)
-      (λ before error after. RefusesGiving before status (reason_of status) (header_lines fields)
-      (size_of before.asked status length) error after) old new
+-- The field lines of a map except those of Content-Length. The connection itself states the length of what it sends, so
+-- what they state delimits nothing (RFC 9112, section 6.3).
+abbrev pub kept_lines : Entries FieldValue → List Header
+kept_lines fields =
+    map (λ line. (line.0, line.1.bytes)) (filter (λ line. not (bytes_eq line.0 (codes "content-length"))) (pairs fields))
 
-  -- That of the section's fields. If the number is no status, or the section has a line that is no field, nothing
-  -- changes; nor if memory runs out before.
+-- A response to HEAD and a 304 may state the length that they don't have; a 204 may not (RFC 9110, section 8.6).
+abbrev pub may_state : Option AskedRequest → ℕ → Bool
+may_state asked status = not (status == 204) && is_empty (size_of asked status 0)
+
+-- the number, in plain form, that all field lines of Content-Length state, if there is one and it may be stated
+abbrev pub IsStated : Bool → List Line → Option (List ℕ) → Type 0
+IsStated false lines stated = stated ≡ None
+IsStated true lines (Some text) =
+    (length : ℕ) × content_length_reads lines (record { 0 = length }) × (text ≡ decimal length)
+IsStated true lines None = ReadsNothing content_length_reads lines
+
+-- one line in place of theirs
+abbrev pub stated_lines : Option (List ℕ) → List Header
+stated_lines (Some text) = (codes "content-length", text) ∷ []
+stated_lines None = []
+
+-- the field lines that are sent of those of a map
+abbrev pub AreSent : Option AskedRequest → ℕ → Entries FieldValue → List Header → Type 0
+AreSent asked status fields lines =
+    (stated : Option (List ℕ))
+    × IsStated (may_state asked status) (lines_at fields (codes "content-length")) stated
+    × (lines ≡ kept_lines fields ++ stated_lines stated)
+
+module _ (status length : ℕ) where
+  -- the head of a response with these field lines is put
+  abbrev pub RespondsWith : List Header → HeldGate → HeldGate → Result (Unit {0}) Failure → Type 0
+  RespondsWith lines old new = WritesBy
+      (λ before after. Gives before status (reason_of status) lines (size_of before.asked status length) after)
+      (λ before error after. RefusesGiving before status (reason_of status) lines (size_of before.asked status length)
+      error after) old new
+
+  -- that of what is sent of the section's fields
+  abbrev pub RespondsFor : List ℕ → HeldGate → HeldGate → Result (Unit {0}) Failure → Type 0
+  RespondsFor section old new answer =
+      IsStatusCode status × (fields : Entries FieldValue) × Holds section fields
+      × (lines : List Header) × AreSent old.connection.asked status fields lines × RespondsWith lines old new answer
+
+  -- If the number is no status, or the section has a line that is no field, nothing changes; nor if memory runs out
+  -- before.
   abbrev pub Responds : List ℕ → HeldGate → HeldGate → Result (Unit {0}) Failure → Type 0
-  Responds section old new (Ok tt) =
-      IsStatusCode status × (fields : Entries FieldValue) × Holds section fields × RespondsWith fields old new (Ok tt)
+  Responds section old new (Ok tt) = RespondsFor section old new (Ok tt)
   Responds section old new (Err failure) =
       ((failure ≡ Refused) × ¬ (IsStatusCode status) × (new ≡ old))
       ⊎ ((IsMapOf section (Err failure) × (new ≡ old))
       ⊎ (((failure ≡ Memory) × (new ≡ old))
-      ⊎ (IsStatusCode status × (fields : Entries FieldValue) × Holds section fields
-      × RespondsWith fields old new (Err failure))))
+      ⊎ RespondsFor section old new (Err failure)))
 
 -- a piece of its content is put
 abbrev pub PushesPiece : List ℕ → HeldGate → HeldGate → Result (Unit {0}) Failure → Type 0

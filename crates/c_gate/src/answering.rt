@@ -1,18 +1,19 @@
 //! How a request is answered.
-ghost use Rattle.std.specs.Prelude.{◌≡◌, IfOk, option_map};
-ghost use Rattle.http_header.{specs.FieldValue.FieldValue, specs.HeaderMap.Entries};
+ghost use Rattle.std.specs.Prelude.{◌≡◌, ◌++◌, IfOk, codes, option_copied, option_map};
+ghost use Rattle.headers.specs.LineMap.{lines_at};
 ghost use Rattle.http1.specs.Head.{pairs};
 ghost use Rattle.http1_typed.specs.Parts.{reason_of};
 ghost use Rattle.gateway_exchange.specs.Steps.{Passes};
-ghost use Rattle.c_gate.specs.Answers.{AnswersNumber, EndsPieces, PushesPiece, Responds, RespondsWith, header_lines};
-ghost use Rattle.c_gate.specs.{Answers.{is_head, size_of, write_failure}, Calls.{Does, OnGate}};
+ghost use Rattle.c_gate.specs.Answers.{AnswersNumber, EndsPieces, IsStated, PushesPiece, Responds, RespondsWith};
+ghost use Rattle.c_gate.specs.Answers.{is_head, kept_lines, may_state, size_of, stated_lines, write_failure};
+ghost use Rattle.c_gate.specs.Calls.{Does, OnGate};
 
 use crate::calling::change;
 use c_decisions::read_status;
 use c_handles::{Handle, HeldGate};
 use c_parts::{Failure, HashKeys, read_map};
 use gateway_exchange::AskedRequest;
-use headers::HeaderMap;
+use headers::{ContentLength, HeaderMap, HeaderMapExt, HeaderValue};
 use http::{Method, StatusCode};
 use http1::{BodySize, Header, WriteError};
 use std::alloc::{AllocError, Global};
@@ -55,13 +56,53 @@ pub fn pass(alloc: Global, handle: &mut Handle) -> Result<(), Failure>
     change(alloc, handle, pass_in)
 }
 
-fn lines_of<'a>(alloc: Global, fields: &'a HeaderMap) -> Result<Vec<Header<'a>>, AllocError>
-    ensures { IfOk result (λ lines. pairs lines.items ≡ header_lines fields.now) }
+// The field lines of a map except those of Content-Length.
+fn kept_lines<'a>(alloc: Global, fields: &'a HeaderMap) -> Result<Vec<Header<'a>>, AllocError>
+    ensures { IfOk result (λ lines. pairs lines.items ≡ kept_lines fields.now) }
 {
     let mut lines = Vec::new(alloc);
     for (name, value) in fields.iter() {
+        if name.as_str() != "content-length" {
+            lines.push(Header {
+                name: name.as_str().as_bytes(),
+                value: value.as_bytes(),
+            })?;
+        }
+    }
+    Ok(lines)
+}
+
+// The number, in plain form, that all field lines of Content-Length state, if there is one and it may be stated.
+fn stated_value(
+    alloc: Global,
+    fields: &HeaderMap,
+    may_state: bool,
+) -> Result<Option<HeaderValue>, AllocError>
+    ensures { IfOk result (λ stated. IsStated may_state (lines_at fields.now (codes "content-length"))
+        (option_map (λ value. value.bytes) stated)) }
+{
+    if !may_state {
+        return Ok(None);
+    }
+    match fields.typed_get::<ContentLength>(alloc) {
+        Some(length) => Ok(Some(HeaderValue::from_u64(alloc, length.0)?)),
+        None => Ok(None),
+    }
+}
+
+// The field lines that are sent: those, and one with the length that is stated.
+fn lines_of<'a>(
+    alloc: Global,
+    fields: &'a HeaderMap,
+    stated: Option<&'a HeaderValue>,
+) -> Result<Vec<Header<'a>>, AllocError>
+    ensures { IfOk result (λ lines. pairs lines.items ≡ kept_lines fields.now
+        ++ stated_lines (option_map (λ value. value.bytes) (option_copied stated.entry))) }
+{
+    let mut lines = kept_lines(alloc, fields)?;
+    if let Some(value) = stated {
         lines.push(Header {
-            name: name.as_str().as_bytes(),
+            name: b"content-length",
             value: value.as_bytes(),
         })?;
     }
@@ -95,14 +136,20 @@ fn size_of(gate: &HeldGate, status: StatusCode, length: u64) -> BodySize
     }
 }
 
+// A response to HEAD and a 304 may state the length that they don't have; a 204 may not (RFC 9110, section 8.6).
+fn may_state(gate: &HeldGate, status: StatusCode) -> bool
+    ensures { result ≡ may_state gate.now.connection.asked status }
+{
+    status != StatusCode::NO_CONTENT && size_of(gate, status, 0) == BodySize::Empty
+}
+
 fn respond_with(
     gate: &mut HeldGate,
     status: StatusCode,
     lines: &[Header<'_>],
     length: u64,
 ) -> Result<(), Failure>
-    ensures { (fields : Entries FieldValue) → pairs lines.now ≡ header_lines fields
-        → RespondsWith status length fields gate.old gate.new result }
+    ensures { RespondsWith status length (pairs lines.now) gate.old gate.new result }
 {
     let size = size_of(gate, status, length);
     match gate
@@ -126,12 +173,14 @@ fn respond_in(
 {
     let status = read_status(status)?;
     let fields = read_map(alloc, section, keys)?;
-    let lines = lines_of(alloc, &fields)?;
+    let stated = stated_value(alloc, &fields, may_state(gate, status))?;
+    let lines = lines_of(alloc, &fields, stated.as_ref())?;
     respond_with(gate, status, lines.as_slice(), length)
 }
 
-/// Begins a response of the caller's, with these fields and so much content. Rejected if none is due, the status is no
-/// number from 100 to 999, a line of the section is no field, or the response can't be sent.
+/// Begins a response of the caller's, with these fields and so much content, whatever length they state. Rejected if
+/// none is due, the status is no number from 100 to 999, a line of the section is no field, or the response can't be
+/// sent.
 pub fn respond(
     alloc: Global,
     handle: &mut Handle,

@@ -1,6 +1,5 @@
-use Rattle.{std.proofs.Common.{ℕ, List, refl, subst}, http1.specs.{Fields.Header, Head.pairs}}
-use Rattle.{http1.specs.declared.conn.BodySize.BodySize, http1_typed.specs.Parts.reason_of}
-use Rattle.{gateway_exchange.specs.Steps.RefusesGiving, c_gate.specs.Answers.size_of}
+use Rattle.{std.proofs.Common.{ℕ, List, refl, subst}, http1.specs.{Head.pairs, declared.conn.BodySize.BodySize}}
+use Rattle.{http1_typed.specs.Parts.reason_of, gateway_exchange.specs.Steps.RefusesGiving, c_gate.specs.Answers.size_of}
 use Rattle.c_gate.proofs.answering.respond_with.Goals as goal
 
 pub returns-in-Err : goal.returns-in-Err
@@ -8,17 +7,17 @@ returns-in-Err c =
     let old = c.args.gate.now.connection in
     let new = c.respond.new.self in
     let status = c.args.status in
-    let error = c.in-Err.error in
-    λ fields same. (
+    let lines = pairs c.args.lines.now in
+    let error = c.in-Err.error in (
       error,
       c.failure_of.ensures,
       (
-        subst (λ (lines : List Header). RefusesGiving old status (reason_of status) lines
-            (size_of old.asked status c.args.length) error new) same (subst
-            (λ (reason : List ℕ). RefusesGiving old status reason (pairs c.args.lines.now)
-            (size_of old.asked status c.args.length) error new) c.reason_of.ensures (subst
-            (λ (size : BodySize). RefusesGiving old status c.reason_of.result.now (pairs c.args.lines.now) size error
-            new) c.size_of-size.ensures c.in-Err.ensures)),
+        subst
+            (λ (reason : List ℕ). RefusesGiving old status reason lines (size_of old.asked status c.args.length) error
+            new) c.reason_of.ensures
+            (subst
+            (λ (size : BodySize). RefusesGiving old status c.reason_of.result.now lines size error new)
+            c.size_of-size.ensures c.in-Err.ensures),
         refl,
       ),
     )
