@@ -86,7 +86,7 @@ struct exchange {
     bool is_own;        /* nobody asked: what is stored is validated */
     bool is_asked;      /* a request came, and its response hasn't ended */
     bool is_giving;     /* the content is that of the pass */
-    bool is_behind;     /* bytes wait for the client, as was told last */
+    bool is_behind;     /* bytes waited for the client after the last step */
     bool is_storing;    /* the pass gets what passes */
     bool is_validating; /* the origin is asked by the conditions of the cache */
     bool repeats;       /* by a new connection */
@@ -327,7 +327,7 @@ static void fail(struct exchange *exchange, uint16_t status) {
 
 static void forward(struct exchange *exchange, struct upstream *upstream) {
     upstream->is_connected = true;
-    upstream->end.is_readable = upstream->end.tls != NULL; /* else epoll says it */
+    upstream->end.is_readable = upstream->end.tls != NULL; /* OpenSSL may hold bytes already; otherwise epoll tells */
     wait_in(&upstream->end.source, NULL);
     if (typed_headers_gate_forward(&exchange->gate, &upstream->connection))
         exchange->is_over = true;
@@ -425,10 +425,13 @@ static void on_origin(struct source *source, uint32_t events) {
 /* Gives the next piece of a response that isn't the origin's, and its end after the last one. */
 static void give_piece(struct exchange *exchange) {
     size_t count = exchange->left < BUFFER ? (size_t)exchange->left : BUFFER;
-    if (count > 0 && (typed_headers_pass_content(&exchange->pass, exchange->given, own.buffer, count, &count) ||
-                      count == 0 || typed_headers_gate_push(&exchange->gate, own.buffer, count))) {
-        exchange->is_over = true;
-        return;
+    if (count > 0) {
+        if (typed_headers_pass_content(&exchange->pass, exchange->given, own.buffer, count, &count))
+            count = 0;
+        if (count == 0 || typed_headers_gate_push(&exchange->gate, own.buffer, count)) {
+            exchange->is_over = true;
+            return;
+        }
     }
     exchange->given += count;
     exchange->left -= count;

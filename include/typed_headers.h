@@ -1662,10 +1662,11 @@ uint8_t typed_headers_has_member(const uint8_t *lines, size_t lines_length, cons
  * may follow it; `!` is what is malformed. Parameters are those of RFC 9110, section 5.6.6. A cookie has its name and
  * value, what its attributes mean (RFC 6265, section 5.2), its other attributes, and `r` for what browsers reject it
  * by. Behind the parameters of a link are the relation types of its first `rel`, each in lower case as `l` (RFC 8288,
- * section 3.3), and its title. That, and the name of a file, is `e` and the value of the first `title*` or `filename*`,
- * if `typed_headers_extended_text` has a text for it, or else `o` and the octets of the first `title` or `filename`. An
- * empty line ends each element, challenge, link, cookie, disposition, hop and cache. Refused: `form` is none, or a line
- * can't be one.
+ * section 3.3). A title and the name of a file have one line: `e` and the value of the first `title*` or `filename*`,
+ * if `typed_headers_extended_text` has a text for it. Else it is `o` and the octets of the first `title` or `filename`.
+ * A cache has those parameters of RFC 9211 that have its types, each once: `i` is an integer, `n` what is true, `p` a
+ * string, `t` a token. An empty line ends each element, challenge, link, cookie, disposition, hop and cache. Refused:
+ * `form` is none, or a line can't be one.
  */
 uint8_t typed_headers_field_parts(uint8_t form, const uint8_t *lines, size_t lines_length, uint8_t *room,
                                   size_t room_length, size_t *written);
@@ -2173,9 +2174,9 @@ uint8_t typed_headers_gate_answer(struct typed_headers_gate *gate, uint16_t stat
 /*
  * Begins a response with these fields, and so many bytes of content, to the request that waits, also in place of the
  * origin's. Its Content-Length is the length of that content, whatever these fields state. To HEAD, and in a 304, it is
- * the number that they state, if all its field lines state the same one. Refused: none waits, the status is no number
- * from 100 to 999, a line of the section before its first empty one is no field, or the response can't be sent. Memory:
- * the handle is open.
+ * the number that all its field lines state, or there is none; a 204 has none. Refused: none waits, the status is no
+ * number from 100 to 999, a line of the section before its first empty one is no field, or the response can't be sent.
+ * Memory: the handle is open.
  */
 uint8_t typed_headers_gate_respond(struct typed_headers_gate *gate, uint16_t status, const uint8_t *section,
                                    size_t section_length, uint64_t length, const struct typed_headers_keys *keys);

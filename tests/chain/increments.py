@@ -1,6 +1,6 @@
 """Many clients increment a counter through gateways and caches, and no increment may be lost.
 
-    tests/chain/run --increments [--clients N] [--increments N] [--seed N] [WAY..]
+    tests/chain/run --increments [--clients N] [--each N] [--seed N] [WAY..]
 
 A client gets the counter, and puts the next one with If-Match and the ETag that it got. Two of three clients are curl,
 a process for each request. In front of each part a proxy delays, cuts and repeats connections: a request comes late,
@@ -12,7 +12,8 @@ After that the clients do without If-Match, and increments must be lost: else th
 the way removes what a PUT changes, no client may get an older version than it has written: that is the theorem
 `clients_read_their_writes` of crates/updates.
 
-A line for each way has what was seen. A client stops after eight seconds, also with fewer increments. The status is 0
+A line for each way has what was seen. A client stops after eight seconds, also with fewer increments. A seed doesn't
+repeat a run, as its threads race. The status is 0
 exactly if all of this held.
 """
 import argparse
@@ -300,7 +301,7 @@ def pass_way(options: argparse.Namespace, name: str, work: Path) -> bool:
         for page in pages:
             clients = [Client(it, page, fronts[0 if it % 4 == 3 else -1], random.Random(f"{seed}/{it}"))
                        for it in range(options.clients)]
-            runs.append(run(clients, options.increments))
+            runs.append(run(clients, options.each))
     told, without = runs
     lost, other = told["made"] - told["kept"], without["made"] - without["kept"]
     strange = {it for one in runs for it in one if it.isdigit()} - {"204", "412", "502", "503", "504"}
@@ -321,7 +322,7 @@ def pass_way(options: argparse.Namespace, name: str, work: Path) -> bool:
 def main() -> int:
     parser = argparse.ArgumentParser(description=__doc__.split("\n")[0])
     parser.add_argument("--clients", type=int, default=12)
-    parser.add_argument("--increments", type=int, default=8, help="of each client")
+    parser.add_argument("--each", type=int, default=8, help="of each client")
     parser.add_argument("--seed", type=int, default=random.randrange(10**6))
     parser.add_argument("ways", nargs="*", metavar="WAY", help=", ".join(WAYS))
     options = parser.parse_args()

@@ -52,13 +52,15 @@ is_head None = false
 abbrev pub size_of : Option AskedRequest → ℕ → ℕ → BodySize
 size_of asked status length = if is_head asked || (status == 304) then Empty else Known length
 
--- The field lines of a map except those of Content-Length. The connection itself states the length of what it sends, so
--- what they state delimits nothing (RFC 9112, section 6.3).
+-- The field lines of a map except those of Content-Length: the connection writes its own, by what is sent (RFC 9110,
+-- section 8.6).
 abbrev pub kept_lines : Entries FieldValue → List Header
 kept_lines fields =
-    map (λ line. (line.0, line.1.bytes)) (filter (λ line. not (bytes_eq line.0 (codes "content-length"))) (pairs fields))
+    map (λ line. (line.0, line.1.bytes))
+    (filter (λ line. not (bytes_eq line.0 (codes "content-length"))) (pairs fields))
 
--- A response to HEAD and a 304 may state the length that they don't have; a 204 may not (RFC 9110, section 8.6).
+-- Content-Length may be sent to HEAD and in a 304, where it is the length that the content of a 200 to GET has, and not
+-- in a 204 (RFC 9110, section 8.6). That the number is right is the caller's word.
 abbrev pub may_state : Option AskedRequest → ℕ → Bool
 may_state asked status = not (status == 204) && is_empty (size_of asked status 0)
 
@@ -69,12 +71,12 @@ IsStated true lines (Some text) =
     (length : ℕ) × content_length_reads lines (record { 0 = length }) × (text ≡ decimal length)
 IsStated true lines None = ReadsNothing content_length_reads lines
 
--- one line in place of theirs
+-- at most one field line of Content-Length
 abbrev pub stated_lines : Option (List ℕ) → List Header
 stated_lines (Some text) = (codes "content-length", text) ∷ []
 stated_lines None = []
 
--- the field lines that are sent of those of a map
+-- what is sent for a map: its other field lines, and that one
 abbrev pub AreSent : Option AskedRequest → ℕ → Entries FieldValue → List Header → Type 0
 AreSent asked status fields lines =
     (stated : Option (List ℕ))
@@ -89,14 +91,14 @@ module _ (status length : ℕ) where
       (λ before error after. RefusesGiving before status (reason_of status) lines (size_of before.asked status length)
       error after) old new
 
-  -- that of what is sent of the section's fields
+  -- the head is put with what is sent for the section's fields
   abbrev pub RespondsFor : List ℕ → HeldGate → HeldGate → Result (Unit {0}) Failure → Type 0
   RespondsFor section old new answer =
       IsStatusCode status × (fields : Entries FieldValue) × Holds section fields
       × (lines : List Header) × AreSent old.connection.asked status fields lines × RespondsWith lines old new answer
 
-  -- If the number is no status, or the section has a line that is no field, nothing changes; nor if memory runs out
-  -- before.
+  -- If the number is no status, or the section has a line that is no field, nothing changes; nor if an allocation fails
+  -- before the head is put.
   abbrev pub Responds : List ℕ → HeldGate → HeldGate → Result (Unit {0}) Failure → Type 0
   Responds section old new (Ok tt) = RespondsFor section old new (Ok tt)
   Responds section old new (Err failure) =

@@ -90,7 +90,7 @@ fn stated_value(
     }
 }
 
-// The field lines that are sent: those, and one with the length that is stated.
+// The field lines that are sent: those that are kept, then Content-Length, if a number is stated.
 fn lines_of<'a>(
     alloc: Global,
     fields: &'a HeaderMap,
@@ -136,7 +136,7 @@ fn size_of(gate: &HeldGate, status: StatusCode, length: u64) -> BodySize
     }
 }
 
-// A response to HEAD and a 304 may state the length that they don't have; a 204 may not (RFC 9110, section 8.6).
+// Content-Length may be sent to HEAD and in a 304, and not in a 204 (RFC 9110, section 8.6).
 fn may_state(gate: &HeldGate, status: StatusCode) -> bool
     ensures { result ≡ may_state gate.now.connection.asked status }
 {
@@ -178,9 +178,8 @@ fn respond_in(
     respond_with(gate, status, lines.as_slice(), length)
 }
 
-/// Begins a response of the caller's, with these fields and so much content, whatever length they state. Rejected if
-/// none is due, the status is no number from 100 to 999, a line of the section is no field, or the response can't be
-/// sent.
+/// Begins a response of the caller's, with these fields but Content-Length, and so much content. Rejected if none is
+/// due, the status is no number from 100 to 999, a line of the section is no field, or the response can't be sent.
 pub fn respond(
     alloc: Global,
     handle: &mut Handle,

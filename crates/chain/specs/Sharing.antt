@@ -23,7 +23,8 @@ parts_of name lines =
     if is_list_name name && list_all is_whole (field_members (has_pairs name) lines)
     then map text_of (field_members (has_pairs name) lines) else lines
 
--- the combined value of a field, if it is there (RFC 9110, section 5.2)
+-- the combined value of a field, made of the members of a list, if it is there (RFC 9110, section 5.2; RFC 9111,
+-- section 4.1)
 abbrev pub value_of : List ℕ → List Line → Option (List ℕ)
 value_of name [] = None
 value_of name (line ∷ lines) = Some (combined (parts_of name (line ∷ lines)))
@@ -40,7 +41,7 @@ sent target request =
 -- ---- how a response may be stored
 
 -- not by a shared cache: it is `private`, or `no-store`, which doesn't count beside `must-understand` (RFC 9111,
--- sections 5.2.2.3, 5.2.2.5 and 5.2.2.7)
+-- sections 5.2.2.3, 5.2.2.5 and 5.2.2.7). Whether the cache understands the status is judged apart.
 abbrev pub is_closed : Directives → Bool
 is_closed tells = tells.private || (tells.no_store && not tells.must_understand)
 
@@ -57,8 +58,8 @@ is_name Malformed = false
 abbrev pub varies : LineMap → List Member
 varies response = field_members true (response (codes "vary"))
 
--- What the fields of a response declare. It may not be shared if Vary has a member that is no field name: then no
--- request selects it (RFC 9111, section 4.1).
+-- What the fields of a response declare. It may not be shared if Vary has a member that is no field name: no request
+-- selects a response with `*` there (RFC 9111, section 4.1), and a malformed member counts alike.
 abbrev pub storing_of : Policy → LineMap → Storing
 storing_of policy response =
     if is_closed (tells policy response) || not (list_all is_name (varies response)) then NotShared
@@ -70,7 +71,8 @@ tag_of response = unwrap_or (tag_in response) []
 
 -- ---- what is stored
 
--- The request and the answer are those of the stored response, whose target has this number.
+-- The request, the content, how it may be stored and the entity tag are those of the stored response, whose target has
+-- this number. Lifetime, date, version and other fields are not tied.
 pub record IsOf (policy : Policy) (target : ℕ) (stored : StoredResponse) (request : Sent) (given : Dated) : Type 0
   where
     pub asks : request ≡ sent target (request_of_stored stored)

@@ -1,4 +1,4 @@
-//! What a shared store stores, selects, serves and freshens, caches of `interference` do. A proof cites a law by
+//! What a shared store stores, selects, serves and freshens, caches of `interference` do. A proof uses a theorem by
 //! calling it.
 ghost use Rattle.std.specs.Prelude.{◌≡◌, ◌⊎◌, ◌++◌, ◌∷◌, [], ℕ, List, Some, codes, length, true};
 ghost use Rattle.{std.specs.List.list_any, headers.specs.LineMap.{Field, LineMap}};
@@ -20,11 +20,11 @@ ghost use Rattle.chain.specs.Sharing.{IsOf, right, sent, storing_of, tag_of, upd
 
 use cache_store::laws::{lookups_serve_what_calls_justify, what_is_stored_may_be_stored};
 
-/// Theorem: each response to GET that a shared cache may store, `interference` lets it store for that
-/// request, unless no request selects the response. So it isn't `private`, nor `no-store` without
-/// `must-understand`. If the request has Authorization, a directive lets others get the response (RFC
-/// 9111, section 3.5). An event stores each such response that is stored after any calls, if a pass
-/// gives it.
+/// Theorem: a response to GET that a shared cache may store, `interference` lets it store for that
+/// request, or no request selects the response. In the first case it isn't `private`, nor `no-store`
+/// without `must-understand`. If the request has Authorization then, a directive lets others get it
+/// (RFC 9111, section 3.5). An event stores each response to GET that the store has after any calls,
+/// if a pass gives it; or no request selects it.
 pub fn what_is_stored_may_be_shared()
     ensures allowed { (policy : Policy) (request : Request) (status : ℕ) (response : LineMap) (target : ℕ)
         (head : Head) → policy.kind ≡ Shared → request.method ≡ codes "GET"
@@ -43,9 +43,9 @@ pub fn what_is_stored_may_be_shared()
     what_is_stored_may_be_stored();
 }
 
-/// Theorem: if a request selects a stored response by method and Vary (RFC 9111, sections 4 and 4.1), and
-/// a shared cache may store that, it matches the request in `interference`, too. No request selects one
-/// with `*` in Vary.
+/// Theorem: let a shared cache be allowed to store a response, which a request for the same target
+/// selects by method and Vary (RFC 9111, sections 4 and 4.1). Then it matches the request in
+/// `interference`. No request selects a response with `*` in Vary.
 pub fn what_is_selected_matches()
     ensures matching { (policy : Policy) (request : Request) (stored : StoredResponse) (target : ℕ) (head : Head)
         → policy.kind ≡ Shared
@@ -57,9 +57,9 @@ pub fn what_is_selected_matches()
         → ¬ (IsCandidate request stored) }
 {}
 
-/// Theorem: if a lookup in a shared store serves a response to a GET, after any calls, a cache of
-/// `interference` that has stored the same serves it in two events, if it is fresh there. A pass begins,
-/// which remembers it by its number, and replies with it.
+/// Theorem: let a lookup in a shared store, after any calls, serve a response to a GET. A cache of
+/// `interference` that stores it (`IsOf`, for the same target) serves it by two events, if it is fresh
+/// there. A pass begins and remembers its number; then it replies.
 pub fn what_is_served_is_sent()
     ensures { (policy : Policy) (limits : Limits) (calls : History) (contents : Contents)
         → Run policy limits calls contents → policy.kind ≡ Shared
@@ -79,10 +79,10 @@ pub fn what_is_served_is_sent()
     what_is_stored_may_be_stored();
 }
 
-/// Theorem: if a 304 with a strong tag to a GET updates a stored response to GET, and a shared cache may
-/// reuse that then, it had this tag. A cache of `interference` that has stored the same freshens it in two
-/// events, if the 304 says there what the updated response says. A pass looks up what it remembers, and
-/// stores that under a new number, for the request that it answered first.
+/// Theorem: let a 304 to a GET, with a strong tag, update a stored response to GET, so that a shared
+/// cache may reuse it. Then that response had this tag. A cache of `interference` that stores it
+/// (`IsOf`) freshens it by two events, if the 304 states there the tag and how the result may be stored.
+/// A pass looks it up; the result gets a new number, and answers the request that was answered first.
 pub fn what_is_freshened_is_stored_anew()
     ensures { (policy : Policy) (request : Request) (update : LineMap) (exchange : Exchange)
         (old new : StoredResponse) → policy.kind ≡ Shared → request.method ≡ codes "GET"

@@ -47,7 +47,7 @@ abbrev pub item_text : ℕ → List ℕ → List ℕ → List ℕ
 item_text letter key text =
     option_map_or (λ (found : MemberParts). value_line letter key (written_in text) found.value) (member_in text) []
 
--- of parameters with one key the last counts (RFC 8941, section 4.2.3.2)
+-- of parameters with one key the last counts (RFC 8941, section 4.2.3.2); a key in upper case is malformed
 abbrev pub last_line : ℕ → List ℕ → List Member → List ℕ
 last_line letter key members = option_map_or (item_text letter key) (named Last key members) []
 
@@ -55,7 +55,8 @@ last_line letter key members = option_map_or (item_text letter key) (named Last 
 abbrev pub detail_line : List Member → List ℕ
 detail_line members = last_line 112 (codes "detail") members ++ last_line 116 (codes "detail") members
 
--- what a cache did: each parameter has its type, and is ignored if it has another (RFC 9211, sections 2.1 to 2.8)
+-- What a cache did: each parameter that has the type of RFC 9211, sections 2.1 to 2.8. That one of another type is
+-- ignored is our choice.
 abbrev pub status_lines : List Member → List ℕ
 status_lines members =
     last_line 110 (codes "hit") members ++ last_line 116 (codes "fwd") members

@@ -42,8 +42,9 @@ first_octets name members = option_and_then octets_in (named First name members)
 abbrev pub if_meant : List ℕ → Option (List ℕ)
 if_meant value = if is_some (extended_text value) then Some value else None
 
--- The text of a name (RFC 6266, section 4.3; RFC 8288, section 3.4.1): `e` and the value of the first parameter whose
--- name has a star, if that means a text; else `o` and the octets of the first parameter without one.
+-- The text of a name (RFC 8288, section 3.4.1; RFC 6266, section 4.3): `e` and the value of the first parameter whose
+-- name has a star, if that means a text; else `o` and the octets of the first parameter without one. RFC 6266, section
+-- 4.1, has one parameter of a name at most; that the first of several counts there is our choice.
 abbrev pub named_line : List ℕ → List ℕ → List Member → List ℕ
 named_line name starred members =
     option_map_or (line 101) (option_and_then if_meant (first_octets starred members))

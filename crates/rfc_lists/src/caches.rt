@@ -132,7 +132,7 @@ fn push_detail(text: &mut Vec<u8>, element: &[u8]) -> Result<(), AllocError>
     push_last(text, b't', b"detail", element)
 }
 
-/// Appends the line of a parameter that isn't by the grammar.
+/// Appends `!` for a parameter that the grammar rejects.
 pub(crate) fn push_malformed_item(
     text: &mut Vec<u8>,
     parameter: Result<&[u8], Malformed>,

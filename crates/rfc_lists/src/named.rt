@@ -28,7 +28,7 @@ pub(crate) fn with_name<'a>(name: &[u8], parameter: Result<&'a [u8], Malformed>)
     }
 }
 
-/// Returns the parameter of an element that has this name, in any case, and counts.
+/// Returns the first or the last parameter of an element that has this name, in any case.
 #[tactic(auto, unfolding(crate::specs::Named::named))]
 pub(crate) fn named<'a>(counts: Counts, name: &[u8], element: &'a [u8]) -> Option<&'a [u8]>
     ensures { option_map (λ text. text.now) result ≡ named counts name.now (parameters_in element.now) }
@@ -71,7 +71,7 @@ pub(crate) fn first_octets(
     Ok(Some(octets))
 }
 
-/// Appends the line of the text of a name, which has a star where its value is extended.
+/// Appends the line of the parameter with the starred name, if its value means a text (RFC 8187), or else of the other.
 pub(crate) fn push_named(
     alloc: Global,
     text: &mut Vec<u8>,

@@ -8,7 +8,8 @@ use Rattle.decide_resource.specs.declared.resource.{Resource.Resource, State.The
 use Rattle.server_service.specs.{Answer.AsksForAll, File.{coding_value, len_of, tag_of}, declared.file.File.File}
 use Rattle.server_service.specs.declared.found.Found.{Found}
 
--- the site has GET, and serves each host; it shares nothing with other origins, and negotiates nothing
+-- the site has GET, and serves each host; it shares nothing with other origins, negotiates nothing, and doesn't reject
+-- what a client doesn't accept
 pub record IsPlainSite (resource : Resource) : Type 0 where
   pub has_rule : is_some (rule_for resource.rules.items (codes "GET")) ≡ true
   pub hosts : resource.hosts ≡ None
@@ -32,7 +33,7 @@ pub record GetsWhole (resource : Resource) (request : Asked) (found : Found) (fi
   pub state : found.state ≡ Current
   pub files : found.files.items ≡ file ∷ []
 
--- the fields of the answer that sends all of a file
+-- the fields of the answer that sends all of a file; one without values isn't sent
 abbrev pub whole_fields : ℕ → File → List Field
 whole_fields present file =
     (codes "content-encoding", lines_of_value (coding_value file.coding)) ∷ (codes "content-language", [])

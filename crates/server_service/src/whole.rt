@@ -81,7 +81,7 @@ fn is_plain_site(resource: &Resource) -> bool
         && get_rule(&resource.rules).is_some()
 }
 
-/// The file that was found, if a request gets all of it.
+/// The file that was found, if a request gets all of it. `None` is always right: then `decide_resource` answers.
 pub(crate) fn whole_file<'f>(
     resource: &Resource,
     request: &ResourceRequest<'_>,
@@ -104,7 +104,7 @@ pub(crate) fn whole_file<'f>(
     }
 }
 
-/// What is sent of it.
+/// What the decision sends of a whole file.
 pub(crate) fn all_sent() -> Sends
     ensures { result ≡ Planned (Some 0) Full }
 {
@@ -205,7 +205,7 @@ pub(crate) fn carry_whole(
     let len = file.source.len();
     response.push(Piece::Range(OpenRange { start: 0, len }))?;
     trim_values(alloc, response)?;
-    // A proof needs what it says, and that the length is a number of 64 bits.
+    // The proof needs that the tag is a field value, and that the length fits in 64 bits.
     file.source.show_tag();
     let _len = response.len;
     response.status = StatusCode::OK;

@@ -1,4 +1,4 @@
-use Rattle.{std.proofs.Common.{◌≡◌, ◌++◌, ◌∙◌, Bool, ap, codes, option_map, subst}, http1.specs.Head.pairs}
+use Rattle.{std.proofs.Common.{◌++◌, ◌∙◌, Bool, ap, codes, option_map, subst}, http1.specs.Head.pairs}
 use Rattle.{std.proofs.Common.Option, headers.specs.LineMap.lines_at, http_header.specs.FieldValue.FieldValue}
 use Rattle.{c_gate.proofs.AnswerLemmas.responds, c_gate.specs.Answers.{IsStated, kept_lines, stated_lines}}
 use Rattle.c_gate.proofs.answering.respond_in.Goals as goal

@@ -1,5 +1,5 @@
 use Rattle.{std.proofs.Common.{ℕ, List, refl, subst}, http1.specs.{Head.pairs, declared.conn.BodySize.BodySize}}
-use Rattle.{http1_typed.specs.Parts.reason_of, gateway_exchange.specs.Steps.RefusesGiving, c_gate.specs.Answers.size_of}
+use Rattle.{gateway_exchange.specs.Steps.RefusesGiving, c_gate.specs.Answers.size_of}
 use Rattle.c_gate.proofs.answering.respond_with.Goals as goal
 
 pub returns-in-Err : goal.returns-in-Err
