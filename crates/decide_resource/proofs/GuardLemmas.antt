@@ -46,7 +46,7 @@ no_read method e (inr head) = grind (arith, bytes_eq-Decides, both_ways, bytes_e
 -- a method of preconditions, and no read, has them count
 counted : (current : Target) (method : List ℕ) → ¬ (IsUnconditional method) → ¬ (IsGetOrHead method)
     → ¬ (AreIgnored current method)
-counted current method counts other x4 = grind (arith, current, x4)
+counted current method counts other ignored = grind (arith, current, ignored)
 
 -- a date that isn't later than that of the representation, and isn't earlier, is the same
 date_met : (both : Option (ℕ × ℕ)) → option_map_or (λ (d : ℕ × ℕ). nat_le d.0 (unix_epoch + d.1)) both false ≡ true

@@ -43,7 +43,7 @@ only r s (inr none) = absurd none
 module _ (p : Reason → Bool) (exclusive : AreExclusive p) where
   -- two reasons, the second of which applies as the other does
   of_two : (r s t : Reason) → (p r ≡ true → p t ≡ true → ⊥) → p r ≡ true → p s ≡ true → Among s (r ∷ t ∷ []) → r ≡ s
-  of_two r s t apart h k x6 = grind (arith, x6)
+  of_two r s t apart first second among = grind (arith, among)
 
   holds : (r s : Reason) → r ≡ s → p r ≡ true → p s ≡ true
   holds r s e h = subst (λ (q : Reason). p q ≡ true) e h

@@ -61,7 +61,8 @@ impl StreamConnection {
         ensures err { OnErr result (Receives self.old [] self.new) }
     {
         if self.input.is_empty() && self.input.capacity() < bytes.len() {
-            self.input = BytesMut::copy_from_slice(self.alloc, bytes)?; // (to grow would fill the room by zeros first)
+            // To grow would fill the new room with zeros first.
+            self.input = BytesMut::copy_from_slice(self.alloc, bytes)?;
             return Ok(());
         }
         self.input.extend_from_slice(bytes)
