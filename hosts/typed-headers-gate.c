@@ -86,6 +86,7 @@ struct exchange {
     bool is_own;        /* nobody asked: what is stored is validated */
     bool is_asked;      /* a request came, and its response hasn't ended */
     bool is_giving;     /* the content is that of the pass */
+    bool is_behind;     /* bytes wait for the client, as was told last */
     bool is_storing;    /* the pass gets what passes */
     bool is_validating; /* the origin is asked by the conditions of the cache */
     bool repeats;       /* by a new connection */
@@ -325,7 +326,8 @@ static void fail(struct exchange *exchange, uint16_t status) {
 }
 
 static void forward(struct exchange *exchange, struct upstream *upstream) {
-    upstream->is_connected = upstream->end.is_readable = true;
+    upstream->is_connected = true;
+    upstream->end.is_readable = upstream->end.tls != NULL; /* else epoll says it */
     wait_in(&upstream->end.source, NULL);
     if (typed_headers_gate_forward(&exchange->gate, &upstream->connection))
         exchange->is_over = true;
@@ -420,12 +422,43 @@ static void on_origin(struct source *source, uint32_t events) {
 
 /* ---- The cache ---- */
 
-/* Begins to give the client the stored response that a step of a pass names. */
+/* Gives the next piece of a response that isn't the origin's, and its end after the last one. */
+static void give_piece(struct exchange *exchange) {
+    size_t count = exchange->left < BUFFER ? (size_t)exchange->left : BUFFER;
+    if (count > 0 && (typed_headers_pass_content(&exchange->pass, exchange->given, own.buffer, count, &count) ||
+                      count == 0 || typed_headers_gate_push(&exchange->gate, own.buffer, count))) {
+        exchange->is_over = true;
+        return;
+    }
+    exchange->given += count;
+    exchange->left -= count;
+    if (exchange->left > 0)
+        return;
+    exchange->is_giving = false;
+    close_pass(exchange);
+    exchange->is_over = typed_headers_gate_end(&exchange->gate) != TYPED_HEADERS_DONE;
+}
+
+/* Writes the field line that says what the pass comes to. Returns its length: 0 if nothing is said. */
+static size_t say_status(const struct exchange *exchange, uint8_t *room, size_t length) {
+    const uint8_t *name = (const uint8_t *)gateway->cache_status;
+    size_t count;
+    if (!name || typed_headers_pass_status(&exchange->pass, name, strlen(gateway->cache_status), room, length, &count))
+        return 0;
+    return count;
+}
+
+/* Begins to give the client the stored response that a step of a pass names. The first piece goes with the head, unless
+ * responses before it wait: a client that reads none must not make many of them wait. */
 static void give(struct exchange *exchange, const struct typed_headers_pass_facts *facts) {
     size_t length;
     hurry(&collapsed); /* the pass has ended */
-    if (typed_headers_pass_fields(&exchange->pass, own.buffer, BUFFER, &length) ||
-        typed_headers_gate_respond(&exchange->gate, facts->status, own.buffer, length, facts->count, &own.keys)) {
+    if (typed_headers_pass_fields(&exchange->pass, own.buffer, BUFFER, &length)) {
+        answer(exchange, 502);
+        return;
+    }
+    length += say_status(exchange, own.buffer + length, BUFFER - length);
+    if (typed_headers_gate_respond(&exchange->gate, facts->status, own.buffer, length, facts->count, &own.keys)) {
         answer(exchange, 502);
         return;
     }
@@ -435,6 +468,8 @@ static void give(struct exchange *exchange, const struct typed_headers_pass_fact
     exchange->left = exchange->passed = facts->count;
     if (facts->action == TYPED_HEADERS_REPLY_AND_VALIDATE)
         start_validation(exchange);
+    if (!exchange->is_behind)
+        give_piece(exchange);
 }
 
 /* Does what the step of a pass says. */
@@ -509,6 +544,7 @@ static void take_response(struct exchange *exchange) {
         facts.action = exchange->is_validating ? TYPED_HEADERS_ASK : TYPED_HEADERS_PASS_ON;
         abandon_pass(exchange);
     }
+    length = say_status(exchange, own.buffer, BUFFER);
     switch (facts.action) {
     case TYPED_HEADERS_PASS_ON_TO_END: exchange->is_storing = true; break;
     case TYPED_HEADERS_PASS_ON: close_pass(exchange); break;
@@ -522,6 +558,8 @@ static void take_response(struct exchange *exchange) {
         follow(exchange, &facts);
         return;
     }
+    if (length > 0)
+        typed_headers_gate_add(&exchange->gate, own.buffer, length, &own.keys); /* out of memory, it isn't said */
     if (typed_headers_gate_pass(&exchange->gate))
         exchange->is_over = true;
 }
@@ -534,22 +572,6 @@ static void take_piece(struct exchange *exchange, uint64_t length) {
         (typed_headers_gate_piece(&exchange->gate, own.buffer, BUFFER, &count) ||
          typed_headers_pass_received(&exchange->pass, own.buffer, count) == TYPED_HEADERS_ABSENT))
         abandon_pass(exchange);
-}
-
-/* Gives the next piece of a response that isn't the origin's, or its end. */
-static void give_piece(struct exchange *exchange) {
-    size_t count = exchange->left < BUFFER ? (size_t)exchange->left : BUFFER;
-    if (count == 0) {
-        exchange->is_giving = false;
-        close_pass(exchange);
-        exchange->is_over = typed_headers_gate_end(&exchange->gate) != TYPED_HEADERS_DONE;
-        return;
-    }
-    if (typed_headers_pass_content(&exchange->pass, exchange->given, own.buffer, count, &count))
-        count = 0;
-    exchange->is_over = count == 0 || typed_headers_gate_push(&exchange->gate, own.buffer, count);
-    exchange->given += count;
-    exchange->left -= count;
 }
 
 /* ---- Input and output ---- */
@@ -820,6 +842,7 @@ static void take_turn(struct exchange *exchange) {
         if (typed_headers_gate_next(&exchange->gate, &own.rules, worker.date, &facts))
             break;
         exchange->phase = facts.phase;
+        exchange->is_behind = facts.client_output;
         switch (facts.event) {
         case TYPED_HEADERS_GATE_REQUEST:
         case TYPED_HEADERS_GATE_REPEAT:

@@ -42,6 +42,14 @@ WritesBy P Q old new (Ok tt) = Becomes P old new
 WritesBy P Q old new (Err failure) =
     (error : WriteError) × (failure ≡ write_failure error) × Becomes (λ before after. Q before error after) old new
 
+-- The origin's response that waits has a section's field lines beside its own. If a line of the section is no field, or
+-- if out of memory, nothing changes.
+abbrev pub AddsSection : List ℕ → HeldGate → HeldGate → Result (Unit {0}) Failure → Type 0
+AddsSection section old new (Ok tt) =
+    (fields : Entries FieldValue) × Holds section fields × (list : Vec FieldLine)
+    × (fields_of list.items ≡ header_lines fields) × Becomes (Adds list) old new
+AddsSection section old new (Err failure) = (IsMapOf section (Err failure) ⊎ (failure ≡ Memory)) × (new ≡ old)
+
 -- each field line of a map
 abbrev pub header_lines : Entries FieldValue → List Header
 header_lines fields = map (λ line. (line.0, line.1.bytes)) (pairs fields)

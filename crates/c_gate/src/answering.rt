@@ -5,6 +5,7 @@ ghost use Rattle.http1.specs.Head.{pairs};
 ghost use Rattle.http1_typed.specs.Parts.{reason_of};
 ghost use Rattle.gateway_exchange.specs.Steps.{Passes};
 ghost use Rattle.c_gate.specs.Answers.{AnswersNumber, EndsPieces, PushesPiece, Responds, RespondsWith, header_lines};
+ghost use Rattle.c_gate.specs.Answers.{AddsSection};
 ghost use Rattle.c_gate.specs.{Answers.{is_head, size_of, write_failure}, Calls.{Does, OnGate}};
 
 use crate::calling::change;
@@ -12,6 +13,7 @@ use c_decisions::read_status;
 use c_handles::{Handle, HeldGate};
 use c_parts::{Failure, HashKeys, read_map};
 use gateway_exchange::AskedRequest;
+use gateway_messages::FieldLine;
 use headers::HeaderMap;
 use http::{Method, StatusCode};
 use http1::{BodySize, Header, WriteError};
@@ -53,6 +55,45 @@ pub fn pass(alloc: Global, handle: &mut Handle) -> Result<(), Failure>
     ensures { OnGate (Does Passes) handle.old.held handle.new.held result }
 {
     change(alloc, handle, pass_in)
+}
+
+fn added_of(alloc: Global, fields: &HeaderMap) -> Result<Vec<FieldLine>, AllocError>
+    ensures { IfOk result (λ list. fields_of list.items ≡ header_lines fields.now) }
+{
+    let mut list = Vec::new(alloc);
+    for (name, value) in fields.iter() {
+        list.push(FieldLine {
+            name: name.clone()?,
+            value: value.clone()?,
+        })?;
+    }
+    Ok(list)
+}
+
+fn add_in(
+    alloc: Global,
+    gate: &mut HeldGate,
+    section: &[u8],
+    keys: &HashKeys,
+) -> Result<(), Failure>
+    ensures { AddsSection section.now gate.old gate.new result }
+{
+    let fields = read_map(alloc, section, keys)?;
+    let added = added_of(alloc, &fields)?;
+    gate.connection.add_fields(added);
+    Ok(())
+}
+
+/// Adds these field lines to the origin's response that waits. Rejected if a line of the section is no field.
+pub fn add(
+    alloc: Global,
+    handle: &mut Handle,
+    section: &[u8],
+    keys: &HashKeys,
+) -> Result<(), Failure>
+    ensures { OnGate (AddsSection section.now) handle.old.held handle.new.held result }
+{
+    change(alloc, handle, |gate| add_in(alloc, gate, section, keys))
 }
 
 fn lines_of<'a>(alloc: Global, fields: &'a HeaderMap) -> Result<Vec<Header<'a>>, AllocError>

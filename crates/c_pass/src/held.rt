@@ -1,5 +1,6 @@
 //! What a cache and a pass are behind handles.
 
+use crate::status::Standing;
 use bytes::Bytes;
 use c_parts::HashKeys;
 use cache_pass::{Cache, Pass, Queue};
@@ -43,4 +44,6 @@ pub struct Stepped {
     pub most: usize,
     /// Where it is in the queue.
     pub place: Place,
+    /// What it comes to, as Cache-Status says it.
+    pub standing: Standing,
 }

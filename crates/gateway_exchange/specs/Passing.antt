@@ -80,17 +80,21 @@ RefusesInterim response sent old error new =
     ⊎ Stream.RefusesWrite (informational_refusal old.server response.status response.reason
     (fields_of sent.fields.items)) old error new
 
+-- the fields that are forwarded of it, and those that the caller adds
+abbrev pub shown : Heard → List Header
+shown h = fields_of h.sent.fields.items ++ fields_of h.added.items
+
 -- the head of the final response is put to the client; that of the last says so
 abbrev pub PutsResponse : Bool → Heard → StreamConnection → StreamConnection → Type 0
 PutsResponse is_last h old new =
-    Stream.Responds old h.response.status h.response.reason (closing is_last (fields_of h.sent.fields.items))
+    Stream.Responds old h.response.status h.response.reason (closing is_last (shown h))
     (response_size h.sent.content) new
 
 abbrev pub RefusesResponse : Bool → Heard → StreamConnection → WriteError → StreamConnection → Type 0
 RefusesResponse is_last h old error new =
     ((new ≡ old) × (error ≡ Write.OutOfMemory))
     ⊎ Stream.RefusesWrite (response_refusal old.server h.response.status h.response.reason
-    (response_size h.sent.content) (closing is_last (fields_of h.sent.fields.items))) old error new
+    (response_size h.sent.content) (closing is_last (shown h))) old error new
 
 -- the end of the response is put to the client
 abbrev pub EndsResponse : Gateway → Heard → Entries FieldValue → StreamConnection → StreamConnection → Type 0

@@ -329,6 +329,13 @@ abbrev pub TellsHead : Bool → GatewayConnection → Heard → GatewayConnectio
 TellsHead true old h new = new ≡ record old { stage = At.Judging; heard = Some h }
 TellsHead false old h new = ShowsHead old h new
 
+-- the response that waits has these field lines beside those that are forwarded
+abbrev pub Adds : Vec FieldLine → GatewayConnection → GatewayConnection → Type 0
+Adds fields old new =
+    ((old.stage ≡ At.Judging) × (h : Heard) × (old.heard ≡ Some h)
+    × (new ≡ record old { heard = Some (record h { added = fields }) }))
+    ⊎ (((old.stage ≢ At.Judging) ⊎ (old.heard ≡ None)) × (new ≡ old))
+
 -- the response that waits is put
 abbrev pub Passes : GatewayConnection → GatewayConnection → Type 0
 Passes old new =
@@ -340,7 +347,8 @@ abbrev pub PassesHead : GatewayRules → ℕ → GatewayConnection → AskedRequ
 PassesHead rules date old a response new =
     ((sent : ForwardedResponse)
     × IsForwardedResponse rules.gateway date (answered a response.status response) sent
-    × TellsHead old.watches old (record { response = response; sent = sent }) new)
+    × ((h : Heard) × (h.response ≡ response) × (h.sent ≡ sent) × (h.added.items ≡ [])
+    × TellsHead old.watches old h new))
     ⊎ (IsDiscarded rules.gateway (answered a response.status response) × (new ≡ old))
     ⊎ ((why : Rejection) × RejectsResponse rules.gateway (answered a response.status response) why
     × Fails old (Because.Response why) new)

@@ -7,7 +7,7 @@ ghost use Rattle.gateway_messages.specs.FieldLines.{fields_of};
 ghost use Rattle.gateway_connection.specs.Steps as Origin;
 ghost use Rattle.server_stream.specs.Steps as Stream;
 ghost use Rattle.gateway_exchange.specs.{History.{Exchanged, IsReached, Past}, Tunnels.{Begins, ended_of, input_of}};
-ghost use Rattle.gateway_exchange.specs.Steps.{AsksAgain, Conditions, Connects, ConnectsNow, Dates, EndsGiving};
+ghost use Rattle.gateway_exchange.specs.Steps.{Adds, AsksAgain, Conditions, Connects, ConnectsNow, Dates, EndsGiving};
 ghost use Rattle.gateway_exchange.specs.Steps.{RefusesGiving, RefusesInGiving, ShowsHead, TakesOrigin, asks, is_absent};
 ghost use Rattle.gateway_exchange.specs.Steps.{is_absent_content, is_answered, idle_phase, is_origin_open, is_over};
 ghost use Rattle.gateway_exchange.specs.Steps.{is_passing, waiting_phase, wants_of, Answers, AwaitsRequest, BeginsAt};
@@ -805,7 +805,14 @@ impl GatewayConnection {
             &response,
             now,
         ) {
-            Ok(ResponseOutcome::Forward(sent)) => self.tell_head(Heard { response, sent }),
+            Ok(ResponseOutcome::Forward(sent)) => {
+                let added = Vec::new(self.alloc);
+                self.tell_head(Heard {
+                    response,
+                    sent,
+                    added,
+                })
+            }
             Ok(ResponseOutcome::Discard) => {}
             Ok(ResponseOutcome::Reject(rejection)) => self.fail(Own::Response(rejection)),
             Err(_) => self.fail(Own::OutOfMemory),
@@ -850,6 +857,19 @@ impl GatewayConnection {
         match &self.heard {
             Some(heard) => Some(&heard.response),
             None => None,
+        }
+    }
+
+    /// Adds these field lines to the origin's response that waits, after those that are forwarded, and in place of
+    /// those that were added before.
+    pub fn add_fields(&mut self, fields: Vec<FieldLine>)
+        ensures { Adds fields self.old self.new }
+    {
+        if self.stage != Stage::Judging {
+            return;
+        }
+        if let Some(heard) = &mut self.heard {
+            heard.added = fields;
         }
     }
 

@@ -34,6 +34,8 @@ pub(crate) struct Heard {
     pub(crate) response: OriginResponse,
     /// Its head as sent.
     pub(crate) sent: ForwardedResponse,
+    /// The field lines that the caller adds to that.
+    pub(crate) added: Vec<FieldLine>,
 }
 
 // Puts the head of the request to the origin.
@@ -141,6 +143,7 @@ pub(crate) fn put_response(
         (λ error. RefusesResponse is_last heard.now client.old error client.new) }
 {
     let mut headers = header_list(alloc, &heard.sent.fields)?;
+    headers.extend_from_slice(&header_list(alloc, &heard.added)?)?;
     close_if(is_last, &mut headers)?;
     client.respond(
         heard.response.status,

@@ -60,6 +60,10 @@ impl StreamConnection {
         ensures ok { OnOk result (Receives self.old bytes.now self.new) }
         ensures err { OnErr result (Receives self.old [] self.new) }
     {
+        if self.input.is_empty() && self.input.capacity() < bytes.len() {
+            self.input = BytesMut::copy_from_slice(self.alloc, bytes)?; // (to grow would fill the room by zeros first)
+            return Ok(());
+        }
         self.input.extend_from_slice(bytes)
     }
 
