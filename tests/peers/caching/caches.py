@@ -9,7 +9,7 @@ from pathlib import Path
 from caching import cases, chromium, origin, trafficserver
 from caching.cases import Case
 from caching.outcomes import Answer, Result, results_of
-from common import client, processes
+from common import client, processes, products
 from common.browsers import version
 from common.client import Response
 from common.processes import PYTHON, Missing
@@ -34,11 +34,15 @@ class Cache:
 
 OURS = Cache("ours, shared", ["nice", PYTHON, "-B", "-m", "caching.proxy", "@PORT@", "@ORIGIN@", "shared"])
 STORE = Cache("ours, the store", ["nice", PYTHON, "-B", "-m", "caching.store_proxy", "@PORT@", "@ORIGIN@", "shared"])
+# (the guess is that of the other proxies)
+GATE = Cache("ours, the gateway", ["@GATE@", "--listen", "127.0.0.1:@PORT@", "--origin", "app 127.0.0.1:@ORIGIN@",
+                                   "--workers", "1", "--cache", "67108864", "--cache-guess", "86400"])
 CACHES = [
     OURS,
     Cache("ours, private", ["nice", PYTHON, "-B", "-m", "caching.proxy", "@PORT@", "@ORIGIN@", "private"],
           is_shared=False),
     STORE,
+    GATE,
     # (its own default_grace would serve for ten seconds what is stale)
     Cache("Varnish", ["varnishd", "-F", "-a", "127.0.0.1:@PORT@", "-b", "127.0.0.1:@ORIGIN@", "-n", "@WORK@/varnish",
                       "-s",
@@ -90,16 +94,16 @@ def new_keys(asked: Iterable[Case]) -> dict[str, Case]:
 
 def by_proxy(cache: Cache, keys: dict[str, Case], work: Path) -> dict[str, list[Answer]]:
     port = FIRST_PORT + CACHES.index(cache)
-    names = {"PORT": str(port), "ORIGIN": str(ORIGIN), "WORK": str(work)}
-    if not processes.has(cache.words[0]):
-        raise Missing(f"there is no {cache.words[0]}")
+    names = {"PORT": str(port), "ORIGIN": str(ORIGIN), "WORK": str(work), "GATE": products.gate()}
+    words = [processes.filled(word, names) for word in cache.words]
+    if not processes.has(words[0]):
+        raise Missing(f"there is no {words[0]}")
     if cache.config:
         processes.fill(PEERS / cache.config, work / cache.config, names)
     more = cache.prepare(work, port, ORIGIN) if cache.prepare else {}
     for folder in cache.folders:
         (work / folder).mkdir()
         (work / folder).chmod(0o777)  # (a cache gives up the rights of root)
-    words = [processes.filled(word, names) for word in cache.words]
     with processes.server(words, port, "/page/", work / f"{cache.name}.log", more):
         with concurrent.futures.ThreadPoolExecutor(32) as pool:
             pending = {key: pool.submit(run_case, key, case, port) for key, case in keys.items() if not case.is_alone}

@@ -17,7 +17,7 @@ the other kind of cache, or if the cache asked the origin for more than its clie
 
 Ours is a small proxy that follows `cache_policy` and `decide_preconditions`. They leave some choices to their
 caller, as the key under which a response is stored; these are a few lines of Python. *The store* is a proxy, too, whose
-responses are in `cache_store`. Varnish runs with its built-in
+responses are in `cache_store`; *the gateway* is `typed-headers-gate`, with `cache-guess`. Varnish runs with its built-in
 rules, `default_grace=0` and `default_keep=3600`, and nginx with `proxy_cache_revalidate on`. All others run as they
 come.
 """
@@ -94,7 +94,7 @@ def run(context: Context) -> Part:
     part.section += INTRODUCTION.strip().format(count=len(cases.ALL)).split("\n") + [""]
     part.table(HEAD, [[it.title, *numbers_of(it, cases.ALL)] for it in found])
     table_of_broken(part, found, cases.ALL, "cache")
-    for cache in (caches.OURS, caches.STORE):
+    for cache in (caches.OURS, caches.STORE, caches.GATE):
         if ours := cache_of(found, cache):
             want_all_kept(part, ours)
     against_libraries.compare(context, part)

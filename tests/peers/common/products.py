@@ -1,4 +1,4 @@
-"""What is judged: the library for C by its Python binding, and the program of what C lacks. `run` builds both."""
+"""What is judged: the library for C by its Python binding, and the programs. `run` builds all."""
 import os
 from functools import cache
 from pathlib import Path
@@ -8,6 +8,11 @@ from types import ModuleType
 def program() -> Path:
     """The program of test cases."""
     return Path(os.environ["PEERS_PRODUCTS"], "test_decisions")
+
+
+def gate() -> str:
+    """The program of the gateway."""
+    return str(Path(os.environ["PEERS_PRODUCTS"], "typed-headers-gate"))
 
 
 @cache
