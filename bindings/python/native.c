@@ -1192,7 +1192,7 @@ static PyObject *disposition_value(PyObject *type, union slot *at) {
         } else if (*next == 'e' || *next == 'o') {
             name = (*next == 'e' ? extended : latin_1)(next + 1, behind - next - 1);
             is_made = name != NULL;
-        } else {
+        } else if (*next != 'a') {
             Py_CLEAR(list);
         }
     }
@@ -1212,7 +1212,10 @@ static PyObject *dispositions;
 
 PARSES(disposition, &field_parts_call, dispositions, disposition_value)
 
-/* A header section. */
+/*
+ * A header section. Nothing is decided here, only which of two ways is taken that give the same: what isn't plain is
+ * handed to the library by the package. tests/test_guards.py compares them over all pairs of bytes.
+ */
 
 static bool is_value_byte(char byte) {
     const unsigned char it = (unsigned char)byte;

@@ -1,6 +1,5 @@
 """Header sections: the fields of a message, whatever form a framework has them in."""
 
-import re
 from functools import lru_cache
 from typing import (
     TYPE_CHECKING,
@@ -125,7 +124,7 @@ def canonical_known(field: str, lines: Tuple[Text, ...]) -> List[str]:
 @lru_cache(maxsize=256)
 def _check_name(field: str) -> None:
     """Raises an error if this is no field name."""
-    _library.canonical_text(_field_of(field, b""))
+    _field_of(field, b"")
 
 
 def canonical_section(section: "HeadersLike") -> str:
@@ -143,19 +142,20 @@ def canonical_section(section: "HeadersLike") -> str:
 _section, _pair, _parse = _library.calls.section, _library.calls.pair, _library.calls.pairs
 #: What is between the lines of a field whose lines aren't joined by commas (RFC 9113, section 8.2.3).
 _JOINTS = {"cookie": "; "}
-# A line of a section as it is made of a name and a value.
-_FIELD = re.compile(_library.TOKEN.pattern.encode() + rb": [\t -~\x80-\xff]*\n")
 
 
 def _field_of(name: Text, value: Text) -> bytes:
-    """The line of a section for a field."""
+    """The line of a section for a field, which the extension makes of plain bytes; of others the library says whether
+    they are one."""
+    field = _section(((name, value),))
+    if field is not None:
+        return field
     given, line = _library.to_bytes(name, "name"), _library.to_bytes(value, "value")
-    field = b"%b: %b\n" % (given, line)
-    if not _FIELD.fullmatch(field):
-        if not _library.TOKEN.fullmatch(_library.to_str(given)):
-            raise InvalidField(_library.to_str(given), "this is no field name (RFC 9110, section 5.1)")
+    if not _library.is_token(given):
+        raise InvalidField(_library.to_str(given), "this is no field name (RFC 9110, section 5.1)")
+    if not _library.is_value(line):
         raise _library.rejected(_library.to_str(given).lower(), [line])
-    return field
+    return b"%b: %b\n" % (given, line)
 
 
 def _pairs_of(fields: Any) -> Iterable[Tuple[Text, Text]]:

@@ -55,7 +55,7 @@ def _lines(dimension: int, request: HeadersLike) -> Sequence[Text]:
 
 def _reject(dimension: int, lines: Sequence[Text], offers: List[bytes]) -> NoReturn:
     for line in offers:
-        if _library.NO_VALUE.search(line):
+        if not _library.is_value(line):
             raise HeaderError(f"offers: {_library.to_str(line)!r} has a byte that no field value has")
     name = _FIELDS[dimension]
     raise _library.rejected(name, _library.to_lines(name, lines), "a field line has a byte that no field value has")

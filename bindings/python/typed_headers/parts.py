@@ -52,7 +52,7 @@ __all__ = [
 #: Names and values, in order. A name without a value has `None`.
 Parameters = Tuple[Tuple[str, Optional[str]], ...]
 
-_ELEMENTS, _CHALLENGES, _LINKS, _SET_COOKIES, _, _HOPS, _CACHES = range(7)
+_ELEMENTS, _CHALLENGES, _LINKS, _SET_COOKIES, _DISPOSITIONS, _HOPS, _CACHES = range(7)
 _EXTENDED, _PLAIN, _QUOTED, _IN_CHALLENGE = range(4)
 _read_elements, _read_groups = _library.calls.elements_as, _library.calls.groups
 
@@ -87,15 +87,6 @@ def _pair(name: str, value: Optional[str], kind: int = _PLAIN) -> str:
     return _library.to_str(shown)
 
 
-def _first(parameters: Parameters, name: str) -> Optional[str]:
-    """The value of the first parameter of a name, in any case."""
-    lower = name.lower()
-    for other, value in parameters:
-        if other.lower() == lower:
-            return value
-    return None
-
-
 def _to_parameters(given: Any, what: str) -> Parameters:
     pairs = tuple([(name, value) for name, value in given]) if given else ()
     for name, value in pairs:
@@ -120,7 +111,7 @@ class Element:
 
     def parameter(self, name: str) -> Optional[str]:
         """The value of the first parameter of a name, without quotes. The case of the name doesn't count."""
-        return _first(self.parameters, name)
+        return _library.first_named(self.parameters, name)
 
 
 Value = TypeVar("Value")
@@ -281,12 +272,12 @@ class ContentDisposition(Parsed):
 
     @property
     def is_attachment(self) -> bool:
-        """Whether it is to be stored: so is all but `inline` (RFC 6266, section 4.2)."""
-        return self.type != "inline"
+        """Whether it is to be saved, as a type that isn't known is, too (RFC 6266, section 4.2)."""
+        return any(kind == "a" for kind, _, _ in _groups(_DISPOSITIONS, "content-disposition", str(self), ())[0])
 
     def parameter(self, name: str) -> Optional[str]:
         """The value of the first other parameter of a name, without quotes."""
-        return _first(self.parameters, name)
+        return _library.first_named(self.parameters, name)
 
     def __str__(self) -> str:
         named = [] if self.filename is None else [_pair("filename", self.filename, _EXTENDED)]
@@ -334,7 +325,7 @@ class Challenge:
 
     def parameter(self, name: str) -> Optional[str]:
         """The value of the first parameter of a name, without quotes. The case of the name doesn't count."""
-        return _first(self.parameters, name)
+        return _library.first_named(self.parameters, name)
 
     def __str__(self) -> str:
         shown = [self.token] if self.token is not None else []
@@ -387,7 +378,7 @@ class Link:
 
     def parameter(self, name: str) -> Optional[str]:
         """The value of the first parameter of a name, without quotes. The case of the name doesn't count."""
-        return _first(self.parameters, name)
+        return _library.first_named(self.parameters, name)
 
     def __str__(self) -> str:
         return "; ".join([f"<{self.target}>", *(_pair(name, value) for name, value in self.parameters)])
@@ -422,22 +413,22 @@ class Forwarded:
     @property
     def client(self) -> Optional[str]:
         """`for`: the address of the client, or a name for it."""
-        return _first(self.parameters, "for")
+        return _library.first_named(self.parameters, "for")
 
     @property
     def by(self) -> Optional[str]:
         """The interface on which the request came in."""
-        return _first(self.parameters, "by")
+        return _library.first_named(self.parameters, "by")
 
     @property
     def host(self) -> Optional[str]:
         """Host as the proxy received it."""
-        return _first(self.parameters, "host")
+        return _library.first_named(self.parameters, "host")
 
     @property
     def proto(self) -> Optional[str]:
         """The protocol of the request."""
-        return _first(self.parameters, "proto")
+        return _library.first_named(self.parameters, "proto")
 
     def __str__(self) -> str:
         return ";".join(_pair(name, value) for name, value in self.parameters) or ";"
