@@ -78,6 +78,13 @@ class Fields(unittest.TestCase):
                 shown = "".join(f"{name}: {line}\n" for name, found in lines.items() for line in found)
                 self.assertEqual(shown.encode("latin-1"), wanted, text)
 
+    def test_names_past_ascii(self) -> None:
+        """A letter past ASCII is none of a name, though its lower case is."""
+        fields = Headers({"k": "1"})
+        self.assertEqual((fields["K"], fields.lines("\u212a"), "\u212a" in fields), ("1", (), False))
+        with self.assertRaises(KeyError):
+            fields["\u212a"]
+
     def sections(self) -> List[bytes]:
         words = ".a: b\n|.A:\r\n|.b:c\n|.C: d \t\r\n|.c:\t\n|\n|\r\n|.d: é:|\r|:| "
         return [text.encode("latin-1") for text in drawn(words)]

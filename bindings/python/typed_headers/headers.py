@@ -270,14 +270,16 @@ class Headers(MutableMapping[str, str]):
         return len(self._state.named())
 
     def __contains__(self, name: object) -> bool:
-        return isinstance(name, str) and name.lower() in self._state.named()
+        return isinstance(name, str) and bool(self.lines(name))
 
     def __getitem__(self, name: str) -> str:
         state = self._state
-        lines = (state.by_name or state.named()).get(name.lower())
+        # (no field has a name past ASCII, but some such letters have one of ASCII in lower case)
+        field = name.lower() if name.isascii() else name
+        lines = (state.by_name or state.named()).get(field)
         if lines is None:
             raise KeyError(name)
-        return lines[0] if len(lines) == 1 else _JOINTS.get(name.lower(), ", ").join(lines)
+        return lines[0] if len(lines) == 1 else _JOINTS.get(field, ", ").join(lines)
 
     def __setitem__(self, name: str, value: str) -> None:
         """Puts a single field line where the first of that name is, or at the end."""
@@ -295,9 +297,9 @@ class Headers(MutableMapping[str, str]):
         self._state = _State(None, pairs, named)
 
     def __delitem__(self, name: str) -> None:
-        field = name.lower()
-        if field not in self._state.named():
+        if name not in self:
             raise KeyError(name)
+        field = name.lower()
         pairs, named = self._changing(field)
         named.pop(field, None)
         self._state = _State(None, [it for it in pairs if it[0] != field], named)
@@ -331,7 +333,7 @@ class Headers(MutableMapping[str, str]):
     def lines(self, name: str) -> Sequence[str]:
         """The field lines of a name, without the white space at their ends."""
         state = self._state
-        return (state.by_name or state.named()).get(name.lower(), ())
+        return (state.by_name or state.named()).get(name.lower() if name.isascii() else name, ())
 
     def canonical(self, name: str) -> Optional[List[str]]:
         """The canonical field lines of a name, or `None` if it has none: see `canonical_field`."""

@@ -1,5 +1,5 @@
 -- The place of a name among those of parameters.
-use Rattle.std.proofs.Common.{◌≡◌, ◌∙◌, ℕ, ◌≤◌, ◌+◌, Bool, true, false, cond, List, [], ◌∷◌, length, map, Option, Some}
+use Rattle.std.proofs.Common.{◌≡◌, ◌∙◌, ℕ, ◌+◌, Bool, true, false, cond, List, [], ◌∷◌, length, map, Option, Some}
 use Rattle.std.proofs.Common.{None, ap, refl, sym, arith, nat_lt}
 use Rattle.std.proofs.lemmas.{Bool.Decides.nat_tests, List.{length-map, Folds.find_at}, Option.slice_get_past}
 use Rattle.std.specs.{Prelude.{find, not, option_and_then, position, slice_get}, List.position_or_len, Option.option_or}

@@ -1,8 +1,7 @@
 //! Parameters by their names.
 ghost use Rattle.std.specs.Prelude.{◌≡◌, ◌++◌, option_map, IfOk, OnOk, position};
-ghost use Rattle.http_header.specs.FieldValue.{FieldValue};
-ghost use Rattle.headers_syntax.specs.AsciiCase.{same_name};
-ghost use Rattle.{headers_syntax.specs.Lines.lines_of, rfc_fields.specs.Members.member_of};
+ghost use Rattle.{http_header.specs.FieldValue.FieldValue, headers_syntax.specs.{AsciiCase.same_name, Lines.lines_of}};
+ghost use Rattle.rfc_fields.specs.Members.{member_of};
 ghost use Rattle.rfc_lists.specs.Named.{first_octets, named, named_line, parameters_in, place_named, with_name};
 
 use crate::attributes::attribute_in;
