@@ -30,9 +30,7 @@ from .negotiation import (
     TYPE,
     Quality,
     choose_by,
-    coding_quality,
-    language_quality,
-    type_quality,
+    rate_by,
 )
 from .values import _made, format_date
 
@@ -144,7 +142,7 @@ class _Preferences:
 
     elements: Tuple[Element, ...] = ()
 
-    _NAME = ""
+    _NAME, _DIMENSION = "", TYPE
 
     def __post_init__(self) -> None:
         object.__setattr__(self, "elements", tuple(self.elements))
@@ -167,6 +165,14 @@ class _Preferences:
     def __len__(self) -> int:
         return len(self.elements)
 
+    def best_match(self, offers: Sequence[str]) -> Optional[str]:
+        """What is served of what a server has, the most wanted first: `choose_type` and the like."""
+        return choose_by(self._DIMENSION, (str(self),), offers)
+
+    def quality(self, offer: Text) -> Quality:
+        """How acceptable an offer is: `type_quality` and the like."""
+        return rate_by(self._DIMENSION, {self._NAME: str(self)}, offer)
+
 
 class Accept(_Preferences):
     """The media types that a client prefers (RFC 9110, section 12.5.1).
@@ -180,14 +186,6 @@ class Accept(_Preferences):
 
     _NAME = "accept"
 
-    def best_match(self, offers: Sequence[str]) -> Optional[str]:
-        """The media type that is served, of those that a server has, the most wanted first: `choose_type`."""
-        return choose_by(TYPE, (str(self),), offers)
-
-    def quality(self, offer: Text) -> Quality:
-        """How acceptable a media type is: `type_quality`."""
-        return type_quality({self._NAME: str(self)}, offer)
-
 
 class AcceptEncoding(_Preferences):
     """The content codings that a client prefers (RFC 9110, section 12.5.3).
@@ -196,15 +194,7 @@ class AcceptEncoding(_Preferences):
     'gzip'
     """
 
-    _NAME = "accept-encoding"
-
-    def best_match(self, offers: Sequence[str]) -> Optional[str]:
-        """The coding that is served: `choose_coding`."""
-        return choose_by(CODING, (str(self),), offers)
-
-    def quality(self, offer: Text) -> Quality:
-        """How acceptable a coding is: `coding_quality`."""
-        return coding_quality({self._NAME: str(self)}, offer)
+    _NAME, _DIMENSION = "accept-encoding", CODING
 
 
 class AcceptLanguage(_Preferences):
@@ -215,19 +205,11 @@ class AcceptLanguage(_Preferences):
     ('en-GB', 'en')
     """
 
-    _NAME = "accept-language"
-
-    def best_match(self, offers: Sequence[str]) -> Optional[str]:
-        """The language that is served by basic filtering: `choose_language`."""
-        return choose_by(LANGUAGE, (str(self),), offers)
+    _NAME, _DIMENSION = "accept-language", LANGUAGE
 
     def look_up(self, offers: Sequence[str]) -> Optional[str]:
         """The language that lookup finds: `look_up_language`."""
         return choose_by(LOOK_UP, (str(self),), offers)
-
-    def quality(self, offer: Text) -> Quality:
-        """How acceptable a language is: `language_quality`."""
-        return language_quality({self._NAME: str(self)}, offer)
 
 
 @dataclass(frozen=True)
