@@ -7,7 +7,7 @@ from itertools import product
 from random import Random
 from typing import Callable, Iterator, List, Optional, Tuple
 
-from typed_headers import CacheControl, Cookie, ETags, Headers, InvalidField, MediaType, _library
+from typed_headers import CacheControl, Cookie, ETags, Headers, InvalidField, MediaType, _library, find_cookie
 from typed_headers.errors import HeaderError
 
 calls = _library.calls
@@ -119,9 +119,8 @@ class Values(unittest.TestCase):
         """The first of several cookies is the one that the library finds."""
         for line in drawn("a|b|=|;| |; |A|\"|,|é|c=d"):
             found = Cookie.parse("x;" + line)
-            for name, _ in found.pairs:
-                wanted = next(value for other, value in found.pairs if other == name)
-                self.assertEqual(found.get(name), wanted, line)
+            for name in ("a", "A", *(name for name, _ in found.pairs)):
+                self.assertEqual(found.get(name), find_cookie(name, "x;" + line), line)
 
     def test_tags(self) -> None:
         """Lines without tags are `*` alone, or nothing."""

@@ -266,10 +266,11 @@ def failed(status: int, field: str, lines: Sequence[Text], reason: str = "") -> 
     return rejected(field, to_lines(field, lines), reason)
 
 
-def first_named(parameters: Sequence[Tuple[str, Value]], name: str) -> Optional[Value]:
+def first_named(parameters: Tuple[Tuple[str, Value], ...], name: str) -> Optional[Value]:
     """The value of the first parameter that has a name, as the library finds it."""
-    if not parameters:
-        return None
+    found = calls.first_named(parameters, name)
+    if found is not NotImplemented or not parameters:
+        return found
     names = tuple([it for it, _ in parameters])
     status, place = calls.parameter_place(names, to_bytes(name, "name"))
     if status == ABSENT:

@@ -50,7 +50,7 @@ __all__ = [
 #: Names and values, in order. A name without a value has `None`.
 Parameters = Tuple[Tuple[str, Optional[str]], ...]
 
-_ELEMENTS, _CHALLENGES, _LINKS, _SET_COOKIES, _DISPOSITIONS, _HOPS, _CACHES = range(7)
+_ELEMENTS, _CHALLENGES, _LINKS, _SET_COOKIES, _, _HOPS, _CACHES = range(7)
 _EXTENDED, _PLAIN, _QUOTED, _IN_CHALLENGE = range(4)
 _read_elements, _read_groups = _library.calls.elements_as, _library.calls.groups
 
@@ -235,8 +235,10 @@ class ContentDisposition(Parsed):
     def __post_init__(self) -> None:
         _library.check_types(self, type=str, filename=(str, type(None)))
         object.__setattr__(self, "parameters", _to_parameters(self.parameters, "parameters"))
-        if ContentDisposition.parse(str(self)) != self:
+        parsed = ContentDisposition.parse(str(self))
+        if parsed != self:
             raise HeaderError(f"content-disposition: {str(self)!r} means something else")
+        object.__setattr__(self, "_is_attachment", parsed.is_attachment)
 
     if TYPE_CHECKING:
 
@@ -255,7 +257,7 @@ class ContentDisposition(Parsed):
     @property
     def is_attachment(self) -> bool:
         """Whether it is to be saved, as a type that isn't known is, too (RFC 6266, section 4.2)."""
-        return any(kind == "a" for kind, _, _ in _groups(_DISPOSITIONS, "content-disposition", str(self), ())[0])
+        return bool(getattr(self, "_is_attachment"))
 
     def parameter(self, name: str) -> Optional[str]:
         """The value of the first other parameter of a name, without quotes."""

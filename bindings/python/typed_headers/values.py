@@ -17,6 +17,7 @@ from .errors import HeaderError, InvalidField
 # (a name of this module is found in half the time)
 _read_content_range = _library.calls.content_range_as
 _read_ranges = _library.calls.ranges_as
+_first_named = _library.calls.first_named
 _made = _library.made
 _NO_MEMORY = int(_library.Status.NO_MEMORY)
 #: The form of a list whose elements may have parameters, and the parts of its one element `*`.
@@ -321,16 +322,22 @@ class MediaType(Parsed):
     @property
     def charset(self) -> Optional[str]:
         """The parameter `charset`, if there is one."""
-        return self.parameter("charset")
+        value = _first_named(self.parameters, "charset")
+        return value if value is None or value[:1] != '"' else _meant(value)
 
     def parameter(self, name: str) -> Optional[str]:
         """The first parameter of a name, without quotes and backslashes (RFC 9110, section 5.6.4)."""
         value = _library.first_named(self.parameters, name)
-        if value is None:
-            return None
-        status, shown = _library.calls.field_parts(_ELEMENTS, (f"a={value}",))
-        _library.check(status, lambda: HeaderError(f"{name}: {value!r} is no value of a parameter"))
-        return _library.to_str(shown[len("pa=") : -len("\n\n")])
+        return None if value is None else _meant(value)
+
+
+def _meant(value: str) -> str:
+    """What the value of a parameter means, which is itself if it is a token."""
+    if value[:1] != '"':
+        return value
+    status, shown = _library.calls.field_parts(_ELEMENTS, (f"a={value}",))
+    _library.check(status, lambda: HeaderError(f"{value!r} is no value of a parameter"))
+    return _library.to_str(shown[len("pa=") : -len("\n\n")])
 
 
 # The directives in the order of the library's call.
@@ -772,7 +779,7 @@ class Cookie(Parsed):
 
     def get(self, name: str) -> Optional[str]:
         """The value of the first cookie with this name."""
-        return find_cookie(name, str(self)) if self.pairs else None
+        return next((value for other, value in self.pairs if other == name), None)
 
     def __repr__(self) -> str:
         return f"Cookie(names={tuple(name for name, _ in self.pairs)!r})"
