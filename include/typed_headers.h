@@ -1661,7 +1661,8 @@ uint8_t typed_headers_has_member(const uint8_t *lines, size_t lines_length, cons
  * alone, `p` a name, `=` and what its value means, without quotes, `s` the scheme of a challenge, `k` the token68 that
  * may follow it; `!` is what is malformed. Parameters are those of RFC 9110, section 5.6.6. A cookie has its name and
  * value, what its attributes mean (RFC 6265, section 5.2), its other attributes, and `r` for what browsers reject it
- * by. Behind the parameters of a link are the relation types of its first `rel`, each in lower case as `l` (RFC 8288,
+ * by. `a` without a text is behind the type of a disposition whose content a recipient saves (RFC 6266, section 4.2).
+ * Behind the parameters of a link are the relation types of its first `rel`, each in lower case as `l` (RFC 8288,
  * section 3.3). A title and the name of a file have one line: `e` and the value of the first `title*` or `filename*`,
  * if `typed_headers_extended_text` has a text for it. Else it is `o` and the octets of the first `title` or `filename`.
  * A cache has those parameters of RFC 9211 that have its types, each once: `i` is an integer, `n` what is true, `p` a
@@ -1686,6 +1687,13 @@ uint8_t typed_headers_extended_text(const uint8_t *value, size_t value_length, u
  */
 uint8_t typed_headers_format_parameter(uint8_t kind, const uint8_t *name, size_t name_length, const uint8_t *text,
                                        size_t text_length, uint8_t *room, size_t room_length, size_t *written);
+
+/*
+ * Which of some parameters, by their names, one a line, is the first that has a name: `*place` counts from 0. The case
+ * of ASCII letters doesn't count (RFC 9110, section 5.6.6). Absent: none has it.
+ */
+uint8_t typed_headers_parameter_place(const uint8_t *names, size_t names_length, const uint8_t *name,
+                                      size_t name_length, size_t *place);
 
 /* ---- sections and policies: what several calls are asked of is parsed once, behind a handle. Since 2.0. ---- */
 

@@ -301,6 +301,8 @@ CALL(extended_text, MAY(REFUSED) | MAY(NO_MEMORY), (TEXT_OF(at[0]), ROOM(at[1]))
      PLAIN(ROOM_OF_BYTES))
 CALL(format_parameter, MAY(REFUSED) | MAY(NO_MEMORY), (at[0].u8, TEXT_OF(at[1]), TEXT_OF(at[2]), ROOM(at[3])),
      OF_KIND(NUMBER, U8), PLAIN(GIVEN_TEXT), PLAIN(GIVEN_TEXT), PLAIN(ROOM_OF_BYTES))
+CALL(parameter_place, MAY(REFUSED) | MAY(ABSENT) | MAY(NO_MEMORY), (FIELD(at[0]), TEXT_OF(at[1]), &at[2].size),
+     PLAIN(LINES), PLAIN(GIVEN_TEXT), OF_KIND(OUT_NUMBER, SIZE))
 CALL(section_free, 0, (at[0].handle.at), OF_HANDLE(OPENED, section))
 CALL(cors_policy_free, 0, (at[0].handle.at), OF_HANDLE(OPENED, cors_policy))
 CALL(resource_handle_free, 0, (at[0].handle.at), OF_HANDLE(OPENED, resource_handle))
@@ -483,24 +485,25 @@ enum { MOST_SLOTS = 9 };
     METHOD(forward_response), METHOD(framing), METHOD(basic), METHOD(bearer), METHOD(cookie), METHOD(cookies), \
     METHOD(host), METHOD(origin), METHOD(strict_transport_security), METHOD(retry_after), METHOD(stale_directives), \
     METHOD(directive_arguments), METHOD(content_range), METHOD(content_disposition), METHOD(members), \
-    METHOD(has_member), METHOD(field_parts), METHOD(extended_text), METHOD(format_parameter), METHOD(section_free), \
-    METHOD(cors_policy_free), METHOD(resource_handle_free), METHOD(section_new), METHOD(section_field), \
-    METHOD(section_evaluate), METHOD(section_select), METHOD(section_respond), METHOD(section_choose_type), \
-    METHOD(section_choose_coding), METHOD(section_choose_language), METHOD(cors_policy_new), \
-    METHOD(cors_policy_answer), METHOD(resource_handle_new), METHOD(resource_handle_answer), \
-    METHOD(connection_free), METHOD(connection_new), METHOD(connection_next), METHOD(connection_receive), \
-    METHOD(connection_finish_input), METHOD(connection_method), METHOD(connection_path), METHOD(connection_query), \
-    METHOD(connection_content), METHOD(connection_field), METHOD(connection_fields), METHOD(connection_version), \
-    METHOD(connection_plan), METHOD(connection_plan_field), METHOD(connection_plan_bytes), \
-    METHOD(connection_plan_range), METHOD(connection_respond), METHOD(connection_output), METHOD(connection_range), \
-    METHOD(connection_sent), METHOD(connection_time_out), METHOD(connection_rejection), METHOD(connection_planned), \
-    METHOD(pass_free), METHOD(pass_begin), METHOD(pass_resume), METHOD(pass_came), METHOD(pass_failed), \
-    METHOD(pass_fields), METHOD(pass_validation), METHOD(pass_content), METHOD(pass_received), METHOD(pass_ended), \
-    METHOD(files_free), METHOD(files_new), METHOD(files_path), METHOD(files_plan), METHOD(gate_rules_free), \
-    METHOD(gate_free), METHOD(gate_origin_free), METHOD(gate_rules_new), METHOD(gate_new), METHOD(gate_origin_new), \
-    METHOD(gate_next), METHOD(gate_receive), METHOD(gate_finish), METHOD(gate_output), METHOD(gate_sent), \
-    METHOD(gate_clock), METHOD(gate_timed_out), METHOD(gate_close_after), METHOD(gate_method), METHOD(gate_target), \
-    METHOD(gate_authority), METHOD(gate_key), METHOD(gate_field), METHOD(gate_fields), METHOD(gate_is_for), \
-    METHOD(gate_conditions), METHOD(gate_forward), METHOD(gate_again), METHOD(gate_answer), METHOD(gate_respond), \
-    METHOD(gate_push), METHOD(gate_end), METHOD(gate_response), METHOD(gate_pass), METHOD(gate_piece), \
-    METHOD(gate_take), METHOD(gate_own), METHOD(gate_tunnel), METHOD(gate_ask)
+    METHOD(has_member), METHOD(field_parts), METHOD(extended_text), METHOD(format_parameter), \
+    METHOD(parameter_place), METHOD(section_free), METHOD(cors_policy_free), METHOD(resource_handle_free), \
+    METHOD(section_new), METHOD(section_field), METHOD(section_evaluate), METHOD(section_select), \
+    METHOD(section_respond), METHOD(section_choose_type), METHOD(section_choose_coding), \
+    METHOD(section_choose_language), METHOD(cors_policy_new), METHOD(cors_policy_answer), \
+    METHOD(resource_handle_new), METHOD(resource_handle_answer), METHOD(connection_free), METHOD(connection_new), \
+    METHOD(connection_next), METHOD(connection_receive), METHOD(connection_finish_input), METHOD(connection_method), \
+    METHOD(connection_path), METHOD(connection_query), METHOD(connection_content), METHOD(connection_field), \
+    METHOD(connection_fields), METHOD(connection_version), METHOD(connection_plan), METHOD(connection_plan_field), \
+    METHOD(connection_plan_bytes), METHOD(connection_plan_range), METHOD(connection_respond), \
+    METHOD(connection_output), METHOD(connection_range), METHOD(connection_sent), METHOD(connection_time_out), \
+    METHOD(connection_rejection), METHOD(connection_planned), METHOD(pass_free), METHOD(pass_begin), \
+    METHOD(pass_resume), METHOD(pass_came), METHOD(pass_failed), METHOD(pass_fields), METHOD(pass_validation), \
+    METHOD(pass_content), METHOD(pass_received), METHOD(pass_ended), METHOD(files_free), METHOD(files_new), \
+    METHOD(files_path), METHOD(files_plan), METHOD(gate_rules_free), METHOD(gate_free), METHOD(gate_origin_free), \
+    METHOD(gate_rules_new), METHOD(gate_new), METHOD(gate_origin_new), METHOD(gate_next), METHOD(gate_receive), \
+    METHOD(gate_finish), METHOD(gate_output), METHOD(gate_sent), METHOD(gate_clock), METHOD(gate_timed_out), \
+    METHOD(gate_close_after), METHOD(gate_method), METHOD(gate_target), METHOD(gate_authority), METHOD(gate_key), \
+    METHOD(gate_field), METHOD(gate_fields), METHOD(gate_is_for), METHOD(gate_conditions), METHOD(gate_forward), \
+    METHOD(gate_again), METHOD(gate_answer), METHOD(gate_respond), METHOD(gate_push), METHOD(gate_end), \
+    METHOD(gate_response), METHOD(gate_pass), METHOD(gate_piece), METHOD(gate_take), METHOD(gate_own), \
+    METHOD(gate_tunnel), METHOD(gate_ask)

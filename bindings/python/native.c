@@ -715,15 +715,15 @@ static PyObject *found_or_else(PyObject *found, struct parsed *parsed, uint8_t s
 /* Values whose type is a frozen dataclass. The names are those of its members. */
 
 enum member_name { OPAQUE, WEAK, TAGS, FIRST, LAST, RANGE, LENGTH, TYPE, SUBTYPE, PARAMETERS, PAIRS, USER, PASSWORD,
-                   TOKEN, FILENAME, MAX_AGE, MAX_STALE, MIN_FRESH, S_MAXAGE, NO_CACHE, NO_STORE, NO_TRANSFORM,
-                   ONLY_IF_CACHED, MUST_REVALIDATE, MUST_UNDERSTAND, PUBLIC, PRIVATE, IMMUTABLE, PROXY_REVALIDATE,
-                   MEMBERS };
+                   TOKEN, FILENAME, ATTACHMENT, MAX_AGE, MAX_STALE, MIN_FRESH, S_MAXAGE, NO_CACHE, NO_STORE,
+                   NO_TRANSFORM, ONLY_IF_CACHED, MUST_REVALIDATE, MUST_UNDERSTAND, PUBLIC, PRIVATE, IMMUTABLE,
+                   PROXY_REVALIDATE, MEMBERS };
 
 static const char *const MEMBER_TEXTS[MEMBERS] = {
     "opaque", "weak", "tags", "first", "last", "range", "length", "type", "subtype", "parameters", "pairs", "user",
-    "password", "token", "filename", "max_age", "max_stale", "min_fresh", "s_maxage", "no_cache", "no_store",
-    "no_transform", "only_if_cached", "must_revalidate", "must_understand", "public", "private", "immutable",
-    "proxy_revalidate"};
+    "password", "token", "filename", "_is_attachment", "max_age", "max_stale", "min_fresh", "s_maxage", "no_cache",
+    "no_store", "no_transform", "only_if_cached", "must_revalidate", "must_understand", "public", "private",
+    "immutable", "proxy_revalidate"};
 static PyObject *member_names[MEMBERS];
 
 static bool make_member_names(void) {
@@ -1184,7 +1184,7 @@ static PyObject *disposition_value(PyObject *type, union slot *at) {
     const char *behind = memchr(next, '\n', (size_t)(end - next)), *kind = next + 1;
     const Py_ssize_t length = behind - kind;
     PyObject *list = *next == 'n' ? PyList_New(0) : NULL, *name = NULL;
-    bool is_made = true;
+    bool is_made = true, is_attachment = false;
     for (next = behind + 1; list && is_made && *next != '\n'; next = behind + 1) {
         behind = memchr(next, '\n', (size_t)(end - next));
         if (*next == 'p' || *next == 'n') {
@@ -1192,6 +1192,8 @@ static PyObject *disposition_value(PyObject *type, union slot *at) {
         } else if (*next == 'e' || *next == 'o') {
             name = (*next == 'e' ? extended : latin_1)(next + 1, behind - next - 1);
             is_made = name != NULL;
+        } else if (*next == 'a') {
+            is_attachment = true;
         } else {
             Py_CLEAR(list);
         }
@@ -1200,6 +1202,7 @@ static PyObject *disposition_value(PyObject *type, union slot *at) {
     if (value) {
         set_member(&value, TYPE, latin_1(kind, length));
         set_member(&value, FILENAME, name ? name : none());
+        set_member(&value, ATTACHMENT, PyBool_FromLong(is_attachment));
         set_member(&value, PARAMETERS, tuple_of(list));
     } else {
         Py_XDECREF(list);
@@ -1212,7 +1215,10 @@ static PyObject *dispositions;
 
 PARSES(disposition, &field_parts_call, dispositions, disposition_value)
 
-/* A header section. */
+/*
+ * A header section. Nothing is decided here, only which of two ways is taken that give the same: what isn't plain is
+ * handed to the library by the package. tests/test_guards.py compares them over all pairs of bytes.
+ */
 
 static bool is_value_byte(char byte) {
     const unsigned char it = (unsigned char)byte;
@@ -1383,6 +1389,38 @@ static PyObject *pair(PyObject *module, PyObject *arguments) {
     return found;
 }
 
+/*
+ * The value of the first of some pairs, in a tuple, that the library finds by its name: None if it finds none, and
+ * NotImplemented if a name isn't plain.
+ */
+static PyObject *first_named(PyObject *module, PyObject *const *arguments, Py_ssize_t count) {
+    PyObject *pairs = count == 2 ? arguments[0] : NULL, *found = Py_NotImplemented;
+    struct section_text names, wanted;
+    (void)module;
+    begin_section(&names), begin_section(&wanted);
+    bool is_made = pairs && PyTuple_CheckExact(pairs) && add_part(arguments[1], is_value_byte, "", &wanted);
+    for (Py_ssize_t place = 0, all = is_made ? PyTuple_Size(pairs) : 0; is_made && place < all; place++) {
+        PyObject *pair = PyTuple_GetItem(pairs, place);
+        is_made = PyTuple_CheckExact(pair) && PyTuple_Size(pair) == 2 &&
+                  add_part(PyTuple_GetItem(pair, 0), is_value_byte, "\n", &names);
+    }
+    size_t place = 0;
+    uint8_t status = TYPED_HEADERS_REFUSED;
+    if (is_made) {
+        status = typed_headers_parameter_place(names.at, names.length, wanted.at, wanted.length, &place);
+    }
+    PyErr_Clear();
+    if (status == TYPED_HEADERS_DONE) {
+        found = PyTuple_GetItem(PyTuple_GetItem(pairs, (Py_ssize_t)place), 1);
+    } else if (status == TYPED_HEADERS_ABSENT) {
+        found = Py_None;
+    }
+    PyMem_Free(names.memory);
+    PyMem_Free(wanted.memory);
+    Py_INCREF(found);
+    return found;
+}
+
 #define METHOD(name) {#name, call_##name, METH_VARARGS, NULL}
 #define OWN(name) {#name, name, METH_VARARGS, NULL}
 #define PARSE(name)                                                                                                    \
@@ -1393,7 +1431,8 @@ static PyObject *bound(PyObject *module, PyObject *arguments);
 static PyMethodDef methods[] = {
     CALLS, OWN(bound), OWN(content_range_as), OWN(elements_as), OWN(groups), OWN(pair), OWN(pairs), PARSE(age),
     PARSE(cache_control), PARSE(content_length), PARSE(cookie), PARSE(credentials), PARSE(disposition), PARSE(etag),
-    PARSE(etags), PARSE(media_type), OWN(ranges_as), OWN(section), OWN(use_keys), OWN(version), {NULL, NULL, 0, NULL},
+    PARSE(etags), PARSE(media_type), OWN(ranges_as), OWN(section), OWN(use_keys), OWN(version),
+    {"first_named", (PyCFunction)(void (*)(void))first_named, METH_FASTCALL, NULL}, {NULL, NULL, 0, NULL},
 };
 
 /* A function of a name that is bound to a type: Python calls it faster than a class method. */

@@ -2491,6 +2491,31 @@ static void check_parameter(const struct row *row, uint8_t kind) {
     check(row, call_parameter, &call, TYPED_HEADERS_REFUSED, NO_NUMBER, NO_TEXT);
 }
 
+static uint8_t call_place(const void *arguments, uint64_t *number, uint8_t *room, size_t room_length,
+                          size_t *written) {
+    const struct word_call *call = arguments;
+    size_t place = FILL;
+    (void)room, (void)room_length, (void)written;
+    uint8_t status = typed_headers_parameter_place(call->lines.bytes, call->lines.length, call->word.bytes,
+                                                   call->word.length, &place);
+    if (place != FILL) {
+        *number = place;
+    }
+    return status;
+}
+
+/* `place NAME NAME..` */
+static void check_place(const struct row *row) {
+    struct word_call call = {lines(row, 1), put(second_area, row->words[0].bytes, row->words[0].length), false};
+    if (is_answer(row, "(none)")) {
+        check(row, call_place, &call, TYPED_HEADERS_ABSENT, NO_NUMBER, NO_TEXT);
+    } else if (is_answer(row, "(refused)")) {
+        check(row, call_place, &call, TYPED_HEADERS_REFUSED, NO_NUMBER, NO_TEXT);
+    } else {
+        check(row, call_place, &call, TYPED_HEADERS_DONE, strtoull(row->answer, NULL, 10), NO_TEXT);
+    }
+}
+
 /* The typed calls of a row. */
 static void check_typed(const struct row *row) {
     const char *call = row->call;
@@ -2527,6 +2552,8 @@ static void check_typed(const struct row *row) {
         check_parameter(row, TYPED_HEADERS_PARAMETER_QUOTED);
     } else if (strcmp(call, "in_challenge") == 0) {
         check_parameter(row, TYPED_HEADERS_PARAMETER_IN_CHALLENGE);
+    } else if (strcmp(call, "place") == 0) {
+        check_place(row);
     } else if (strcmp(call, "Cookie.get") == 0) {
         check_cookie(row);
     } else if (strcmp(call, "Cookie.decode") == 0) {

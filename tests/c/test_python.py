@@ -150,6 +150,12 @@ def parts(form):
     return given
 
 
+def place(words, wanted):
+    name, *names = map(decode, words)
+    status, found = headers._library.calls.parameter_place(tuple(names), name)
+    return {"(none)": status == 4, REFUSED: status == 1}.get(wanted[0], status == 0 and str(found) == wanted[0])
+
+
 def text_of(call):
     """A call over texts that gives one."""
 
@@ -849,6 +855,7 @@ CALLS = {
     **{call: parts(form) for form, call in enumerate(FORMS)},
     **{call: text_of(partial(headers._library.calls.format_parameter, kind)) for kind, call in enumerate(KINDS)},
     "extended": text_of(headers._library.calls.extended_text),
+    "place": place,
     "Range.satisfiable_ranges": ranges,
     "evaluate": evaluate,
     "select": select,

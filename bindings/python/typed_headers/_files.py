@@ -96,7 +96,7 @@ class Folder:
 
         `HeaderError` if no such request can be.
         """
-        if not _library.TOKEN.fullmatch(method):
+        if not _library.is_token(method):
             raise HeaderError(f"method: {method!r} is no token (RFC 9110, section 9.1)")
         target = quote(path, _ANY_BYTE) + (f"?{quote(query, _ANY_BYTE + '?%', 'latin-1')}" if query else "")
         lines = "".join(f"{name}: {value}\r\n" for name, value in request.pairs())

@@ -49,8 +49,6 @@ calls = _native
 
 #: Text of a field. A `str` has one character for each byte (ISO 8859-1), as in WSGI and `http.client`.
 Text = Union[str, bytes, bytearray, memoryview]
-#: A token (RFC 9110, section 5.6.2).
-TOKEN = re.compile(r"[!#$%&'*+.^_`|~0-9A-Za-z-]+")
 #: A time: a `datetime` with a time zone, or the seconds since the start of 1970.
 Time = Union[datetime, int]
 
@@ -73,6 +71,9 @@ class Status(IntEnum):
 _REFUSED, _NO_MEMORY, ABSENT, _TOO_LARGE = map(
     int, (Status.REFUSED, Status.NO_MEMORY, Status.ABSENT, Status.TOO_LARGE)
 )
+
+#: A parameter as a token or a quoted-string.
+_PLAIN = 1
 
 # Bytes that no sender of field names can guess. A map of fields hashes with them once names collide.
 _KEYS = os.urandom(16)
@@ -115,6 +116,27 @@ def to_str(text: bytes) -> str:
     return text.decode("latin-1")
 
 
+def is_token(text: Text) -> bool:
+    """Whether a text is a token (RFC 9110, section 5.6.2), and so may be the name of a parameter."""
+    try:
+        name = to_bytes(text, "token")
+    except HeaderError:
+        return False
+    return _is_written(name, b"")
+
+
+def is_value(text: bytes) -> bool:
+    """Whether each byte is one that field values have (RFC 9110, section 5.5), and so a parameter's value may."""
+    return _is_written(b"a", text)
+
+
+def _is_written(name: bytes, value: bytes) -> bool:
+    status, _ = calls.format_parameter(_PLAIN, name, value)
+    if status == _NO_MEMORY:
+        raise MemoryError
+    return status != _REFUSED
+
+
 def to_number(number: SupportsIndex, what: str, bits: int = 64) -> int:
     """A number that fits into so many bits."""
     try:
@@ -126,15 +148,15 @@ def to_number(number: SupportsIndex, what: str, bits: int = 64) -> int:
     return value
 
 
-def check_types(value: object, /, **kinds: Union[type, Tuple[type, ...]]) -> None:
+def check_types(made_of: object, /, **kinds: Union[type, Tuple[type, ...]]) -> None:
     """Raises an error if a member of a value isn't of its type: of the one that is said here, and the declared one."""
     for name, kind in kinds.items():
-        given = getattr(value, name)
+        given = getattr(made_of, name)
         if not isinstance(given, kind):
             names = [it.__name__ for it in (kind if isinstance(kind, tuple) else (kind,))]
             wanted = " or ".join("None" if it == "NoneType" else it for it in names)
             raise TypeError(f"{name}: expected {wanted}, not {type_name(given)}")
-    check_members(value)
+    check_members(made_of)
 
 
 class Parsed:
@@ -206,7 +228,7 @@ def joined(lines: Sequence[bytes]) -> bytes:
 # What comes back
 
 
-#: A byte that no field value has (RFC 9110, section 5.5).
+#: A byte that no field value has (RFC 9110, section 5.5): where it is, once the library has rejected a line.
 NO_VALUE = re.compile(rb"[^\t -~\x80-\xff]")
 
 
@@ -242,6 +264,19 @@ def failed(status: int, field: str, lines: Sequence[Text], reason: str = "") -> 
     if status == _NO_MEMORY:
         return MemoryError()
     return rejected(field, to_lines(field, lines), reason)
+
+
+def first_named(parameters: Tuple[Tuple[str, Value], ...], name: str) -> Optional[Value]:
+    """The value of the first parameter that has a name, as the library finds it."""
+    found = calls.first_named(parameters, name)
+    if found is not NotImplemented or not parameters:
+        return found
+    names = tuple([it for it, _ in parameters])
+    status, place = calls.parameter_place(names, to_bytes(name, "name"))
+    if status == ABSENT:
+        return None
+    check(status, lambda: HeaderError(f"parameters: {names!r} are no names"))
+    return parameters[place][1]
 
 
 Number = Callable[[Tuple[Text, ...]], Tuple[int, int]]

@@ -128,7 +128,8 @@ def _warc_records(file: IO[bytes]) -> Iterator[Tuple[Headers, bytes]]:
 def _read_warc(file: IO[bytes]) -> Iterator[Exchange]:
     """The exchanges of a WARC file: a request is the record before its response or behind it, whichever names the other."""
     requests: Dict[str, bytes] = {}
-    waits: Optional[Tuple[Headers, bytes]] = None
+    #: The response that a request may follow.
+    waiting: List[Tuple[Headers, bytes]] = []
 
     def exchange(fields: Headers, head: bytes, request: bytes) -> Exchange:
         return Exchange(fields.get("warc-target-uri", ""), head, request, _seconds(fields.get("warc-date", "")))
@@ -137,25 +138,23 @@ def _read_warc(file: IO[bytes]) -> Iterator[Exchange]:
         for fields, head in _warc_records(file):
             number, other = fields.get("warc-record-id", ""), fields.get("warc-concurrent-to", "")
             if fields["warc-type"] == "request":
-                if waits is not None and other and other == waits[0].get("warc-record-id"):
-                    yield exchange(*waits, head)
-                    waits = None
+                if waiting and other and other == waiting[0][0].get("warc-record-id"):
+                    yield exchange(*waiting.pop(), head)
                 else:
                     requests = {number: head}
                 continue
-            if waits is not None:
-                yield exchange(*waits, b"")
-            waits = None
+            while waiting:
+                yield exchange(*waiting.pop(), b"")
             if other in requests:
                 yield exchange(fields, head, requests.pop(other))
             else:
-                waits = fields, head
+                waiting.append((fields, head))
     except (UnreadableFile, EOFError, OSError):
-        if waits is not None:
-            yield exchange(*waits, b"")
+        while waiting:
+            yield exchange(*waiting.pop(), b"")
         raise
-    if waits is not None:
-        yield exchange(*waits, b"")
+    while waiting:
+        yield exchange(*waiting.pop(), b"")
 
 
 def _read_har(file: IO[bytes]) -> Iterator[Exchange]:

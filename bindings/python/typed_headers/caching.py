@@ -322,9 +322,6 @@ class Pass:
     b'el'
     """
 
-    #: What is done first. `Wait` comes only of a cache with `wait`.
-    step: Union[Ask, Reply, Wait]
-
     def __init__(
         self, cache: "Cache", method: str, target: str, request: Headers, now: Optional[Time] = None, alone: Ask = Ask()
     ) -> None:
@@ -335,7 +332,8 @@ class Pass:
         _library.check(status, lambda: _refused(asked))
         step = self._told(facts)
         assert isinstance(step, (Ask, Reply, Wait))
-        self.step = step
+        #: What is done first. `Wait` comes only of a cache with `wait`.
+        self.step: Union[Ask, Reply, Wait] = step
 
     def resume(
         self, *, now: Optional[Time] = None, wake: Optional[Callable[[], None]] = None

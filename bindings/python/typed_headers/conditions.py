@@ -245,6 +245,6 @@ def respond(
 def _no_response(method: Text, request: HeadersLike, target: Target, kind: bytes, boundary: bytes) -> HeaderError:
     if not re.fullmatch(rb"[A-Za-z0-9'+._-]{1,70}", boundary):
         return HeaderError("boundary: expected 1 to 70 letters, digits, or ', +, -, ., _ (RFC 2046, section 5.1.1)")
-    if _library.NO_VALUE.search(kind):
+    if not _library.is_value(kind):
         return HeaderError("media_type: it has a byte that no field value has (RFC 9110, section 5.5)")
     return _refused(method, request, target)

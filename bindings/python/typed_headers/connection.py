@@ -417,6 +417,6 @@ def _wrong_time(name: str, state: State) -> LocalProtocolError:
 
 
 def _wrong_field(name: bytes, value: bytes) -> HeaderError:
-    if not _library.TOKEN.fullmatch(_library.to_str(name)):
+    if not _library.is_token(name):
         return HeaderError(f"headers: {_library.to_str(name)!r} is no field name (RFC 9110, section 5.1)")
     return _library.rejected(_library.to_str(name.lower()), [value], "a byte is none of a field value")

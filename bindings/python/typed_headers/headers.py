@@ -1,6 +1,5 @@
 """Header sections: the fields of a message, whatever form a framework has them in."""
 
-import re
 from functools import lru_cache
 from typing import (
     TYPE_CHECKING,
@@ -125,7 +124,7 @@ def canonical_known(field: str, lines: Tuple[Text, ...]) -> List[str]:
 @lru_cache(maxsize=256)
 def _check_name(field: str) -> None:
     """Raises an error if this is no field name."""
-    _library.canonical_text(_field_of(field, b""))
+    _field_of(field, b"")
 
 
 def canonical_section(section: "HeadersLike") -> str:
@@ -143,19 +142,20 @@ def canonical_section(section: "HeadersLike") -> str:
 _section, _pair, _parse = _library.calls.section, _library.calls.pair, _library.calls.pairs
 #: What is between the lines of a field whose lines aren't joined by commas (RFC 9113, section 8.2.3).
 _JOINTS = {"cookie": "; "}
-# A line of a section as it is made of a name and a value.
-_FIELD = re.compile(_library.TOKEN.pattern.encode() + rb": [\t -~\x80-\xff]*\n")
 
 
 def _field_of(name: Text, value: Text) -> bytes:
-    """The line of a section for a field."""
+    """The line of a section for a field, which the extension makes of plain bytes; of others the library says whether
+    they are one."""
+    field = _section(((name, value),))
+    if field is not None:
+        return field
     given, line = _library.to_bytes(name, "name"), _library.to_bytes(value, "value")
-    field = b"%b: %b\n" % (given, line)
-    if not _FIELD.fullmatch(field):
-        if not _library.TOKEN.fullmatch(_library.to_str(given)):
-            raise InvalidField(_library.to_str(given), "this is no field name (RFC 9110, section 5.1)")
+    if not _library.is_token(given):
+        raise InvalidField(_library.to_str(given), "this is no field name (RFC 9110, section 5.1)")
+    if not _library.is_value(line):
         raise _library.rejected(_library.to_str(given).lower(), [line])
-    return field
+    return b"%b: %b\n" % (given, line)
 
 
 def _pairs_of(fields: Any) -> Iterable[Tuple[Text, Text]]:
@@ -270,14 +270,16 @@ class Headers(MutableMapping[str, str]):
         return len(self._state.named())
 
     def __contains__(self, name: object) -> bool:
-        return isinstance(name, str) and name.lower() in self._state.named()
+        return isinstance(name, str) and bool(self.lines(name))
 
     def __getitem__(self, name: str) -> str:
         state = self._state
-        lines = (state.by_name or state.named()).get(name.lower())
+        # (no field has a name past ASCII, but some such letters have one of ASCII in lower case)
+        field = name.lower() if name.isascii() else name
+        lines = (state.by_name or state.named()).get(field)
         if lines is None:
             raise KeyError(name)
-        return lines[0] if len(lines) == 1 else _JOINTS.get(name.lower(), ", ").join(lines)
+        return lines[0] if len(lines) == 1 else _JOINTS.get(field, ", ").join(lines)
 
     def __setitem__(self, name: str, value: str) -> None:
         """Puts a single field line where the first of that name is, or at the end."""
@@ -295,9 +297,9 @@ class Headers(MutableMapping[str, str]):
         self._state = _State(None, pairs, named)
 
     def __delitem__(self, name: str) -> None:
-        field = name.lower()
-        if field not in self._state.named():
+        if name not in self:
             raise KeyError(name)
+        field = name.lower()
         pairs, named = self._changing(field)
         named.pop(field, None)
         self._state = _State(None, [it for it in pairs if it[0] != field], named)
@@ -331,7 +333,7 @@ class Headers(MutableMapping[str, str]):
     def lines(self, name: str) -> Sequence[str]:
         """The field lines of a name, without the white space at their ends."""
         state = self._state
-        return (state.by_name or state.named()).get(name.lower(), ())
+        return (state.by_name or state.named()).get(name.lower() if name.isascii() else name, ())
 
     def canonical(self, name: str) -> Optional[List[str]]:
         """The canonical field lines of a name, or `None` if it has none: see `canonical_field`."""

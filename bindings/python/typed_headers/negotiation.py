@@ -55,7 +55,7 @@ def _lines(dimension: int, request: HeadersLike) -> Sequence[Text]:
 
 def _reject(dimension: int, lines: Sequence[Text], offers: List[bytes]) -> NoReturn:
     for line in offers:
-        if _library.NO_VALUE.search(line):
+        if not _library.is_value(line):
             raise HeaderError(f"offers: {_library.to_str(line)!r} has a byte that no field value has")
     name = _FIELDS[dimension]
     raise _library.rejected(name, _library.to_lines(name, lines), "a field line has a byte that no field value has")
@@ -91,7 +91,8 @@ def _choose(dimension: int, request: HeadersLike, offers: Sequence[str]) -> Opti
     return None if status == _library.ABSENT else offered[place]
 
 
-def _rate(dimension: int, request: HeadersLike, offer: Text) -> Quality:
+def rate_by(dimension: int, request: HeadersLike, offer: Text) -> Quality:
+    """How acceptable an offer is by the field of a dimension."""
     lines, text = tuple(_lines(dimension, request)), _library.to_bytes(offer, "offer")
     status, (weight, is_acceptable) = _QUALITIES[dimension](lines, text)
     _library.check(status, lambda: _reject(dimension, lines, []))
@@ -147,7 +148,7 @@ def type_quality(request: HeadersLike, offer: Text) -> Quality:
     >>> type_quality({"Accept": "audio/*;q=0.2"}, "audio/ogg")
     Quality(weight=200, is_acceptable=True)
     """
-    return _rate(TYPE, request, offer)
+    return rate_by(TYPE, request, offer)
 
 
 def coding_quality(request: HeadersLike, offer: Text) -> Quality:
@@ -156,7 +157,7 @@ def coding_quality(request: HeadersLike, offer: Text) -> Quality:
     >>> coding_quality({"Accept-Encoding": "gzip"}, "identity")
     Quality(weight=0, is_acceptable=True)
     """
-    return _rate(CODING, request, offer)
+    return rate_by(CODING, request, offer)
 
 
 def language_quality(request: HeadersLike, offer: Text) -> Quality:
@@ -165,4 +166,4 @@ def language_quality(request: HeadersLike, offer: Text) -> Quality:
     >>> language_quality({"Accept-Language": "en"}, "eng")
     Quality(weight=0, is_acceptable=False)
     """
-    return _rate(LANGUAGE, request, offer)
+    return rate_by(LANGUAGE, request, offer)

@@ -30,9 +30,7 @@ from .negotiation import (
     TYPE,
     Quality,
     choose_by,
-    coding_quality,
-    language_quality,
-    type_quality,
+    rate_by,
 )
 from .values import _made, format_date
 
@@ -87,15 +85,6 @@ def _pair(name: str, value: Optional[str], kind: int = _PLAIN) -> str:
     return _library.to_str(shown)
 
 
-def _first(parameters: Parameters, name: str) -> Optional[str]:
-    """The value of the first parameter of a name, in any case."""
-    lower = name.lower()
-    for other, value in parameters:
-        if other.lower() == lower:
-            return value
-    return None
-
-
 def _to_parameters(given: Any, what: str) -> Parameters:
     pairs = tuple([(name, value) for name, value in given]) if given else ()
     for name, value in pairs:
@@ -120,7 +109,7 @@ class Element:
 
     def parameter(self, name: str) -> Optional[str]:
         """The value of the first parameter of a name, without quotes. The case of the name doesn't count."""
-        return _first(self.parameters, name)
+        return _library.first_named(self.parameters, name)
 
 
 Value = TypeVar("Value")
@@ -153,7 +142,7 @@ class _Preferences:
 
     elements: Tuple[Element, ...] = ()
 
-    _NAME = ""
+    _NAME, _DIMENSION = "", TYPE
 
     def __post_init__(self) -> None:
         object.__setattr__(self, "elements", tuple(self.elements))
@@ -176,6 +165,14 @@ class _Preferences:
     def __len__(self) -> int:
         return len(self.elements)
 
+    def best_match(self, offers: Sequence[str]) -> Optional[str]:
+        """What is served of what a server has, the most wanted first: `choose_type` and the like."""
+        return choose_by(self._DIMENSION, (str(self),), offers)
+
+    def quality(self, offer: Text) -> Quality:
+        """How acceptable an offer is: `type_quality` and the like."""
+        return rate_by(self._DIMENSION, {self._NAME: str(self)}, offer)
+
 
 class Accept(_Preferences):
     """The media types that a client prefers (RFC 9110, section 12.5.1).
@@ -189,14 +186,6 @@ class Accept(_Preferences):
 
     _NAME = "accept"
 
-    def best_match(self, offers: Sequence[str]) -> Optional[str]:
-        """The media type that is served, of those that a server has, the most wanted first: `choose_type`."""
-        return choose_by(TYPE, (str(self),), offers)
-
-    def quality(self, offer: Text) -> Quality:
-        """How acceptable a media type is: `type_quality`."""
-        return type_quality({self._NAME: str(self)}, offer)
-
 
 class AcceptEncoding(_Preferences):
     """The content codings that a client prefers (RFC 9110, section 12.5.3).
@@ -205,15 +194,7 @@ class AcceptEncoding(_Preferences):
     'gzip'
     """
 
-    _NAME = "accept-encoding"
-
-    def best_match(self, offers: Sequence[str]) -> Optional[str]:
-        """The coding that is served: `choose_coding`."""
-        return choose_by(CODING, (str(self),), offers)
-
-    def quality(self, offer: Text) -> Quality:
-        """How acceptable a coding is: `coding_quality`."""
-        return coding_quality({self._NAME: str(self)}, offer)
+    _NAME, _DIMENSION = "accept-encoding", CODING
 
 
 class AcceptLanguage(_Preferences):
@@ -224,19 +205,11 @@ class AcceptLanguage(_Preferences):
     ('en-GB', 'en')
     """
 
-    _NAME = "accept-language"
-
-    def best_match(self, offers: Sequence[str]) -> Optional[str]:
-        """The language that is served by basic filtering: `choose_language`."""
-        return choose_by(LANGUAGE, (str(self),), offers)
+    _NAME, _DIMENSION = "accept-language", LANGUAGE
 
     def look_up(self, offers: Sequence[str]) -> Optional[str]:
         """The language that lookup finds: `look_up_language`."""
         return choose_by(LOOK_UP, (str(self),), offers)
-
-    def quality(self, offer: Text) -> Quality:
-        """How acceptable a language is: `language_quality`."""
-        return language_quality({self._NAME: str(self)}, offer)
 
 
 @dataclass(frozen=True)
@@ -262,8 +235,10 @@ class ContentDisposition(Parsed):
     def __post_init__(self) -> None:
         _library.check_types(self, type=str, filename=(str, type(None)))
         object.__setattr__(self, "parameters", _to_parameters(self.parameters, "parameters"))
-        if ContentDisposition.parse(str(self)) != self:
+        parsed = ContentDisposition.parse(str(self))
+        if parsed != self:
             raise HeaderError(f"content-disposition: {str(self)!r} means something else")
+        object.__setattr__(self, "_is_attachment", parsed.is_attachment)
 
     if TYPE_CHECKING:
 
@@ -281,12 +256,12 @@ class ContentDisposition(Parsed):
 
     @property
     def is_attachment(self) -> bool:
-        """Whether it is to be stored: so is all but `inline` (RFC 6266, section 4.2)."""
-        return self.type != "inline"
+        """Whether it is to be saved, as a type that isn't known is, too (RFC 6266, section 4.2)."""
+        return bool(getattr(self, "_is_attachment"))
 
     def parameter(self, name: str) -> Optional[str]:
         """The value of the first other parameter of a name, without quotes."""
-        return _first(self.parameters, name)
+        return _library.first_named(self.parameters, name)
 
     def __str__(self) -> str:
         named = [] if self.filename is None else [_pair("filename", self.filename, _EXTENDED)]
@@ -334,7 +309,7 @@ class Challenge:
 
     def parameter(self, name: str) -> Optional[str]:
         """The value of the first parameter of a name, without quotes. The case of the name doesn't count."""
-        return _first(self.parameters, name)
+        return _library.first_named(self.parameters, name)
 
     def __str__(self) -> str:
         shown = [self.token] if self.token is not None else []
@@ -387,7 +362,7 @@ class Link:
 
     def parameter(self, name: str) -> Optional[str]:
         """The value of the first parameter of a name, without quotes. The case of the name doesn't count."""
-        return _first(self.parameters, name)
+        return _library.first_named(self.parameters, name)
 
     def __str__(self) -> str:
         return "; ".join([f"<{self.target}>", *(_pair(name, value) for name, value in self.parameters)])
@@ -422,22 +397,22 @@ class Forwarded:
     @property
     def client(self) -> Optional[str]:
         """`for`: the address of the client, or a name for it."""
-        return _first(self.parameters, "for")
+        return _library.first_named(self.parameters, "for")
 
     @property
     def by(self) -> Optional[str]:
         """The interface on which the request came in."""
-        return _first(self.parameters, "by")
+        return _library.first_named(self.parameters, "by")
 
     @property
     def host(self) -> Optional[str]:
         """Host as the proxy received it."""
-        return _first(self.parameters, "host")
+        return _library.first_named(self.parameters, "host")
 
     @property
     def proto(self) -> Optional[str]:
         """The protocol of the request."""
-        return _first(self.parameters, "proto")
+        return _library.first_named(self.parameters, "proto")
 
     def __str__(self) -> str:
         return ";".join(_pair(name, value) for name, value in self.parameters) or ";"

@@ -169,7 +169,7 @@ class Denied:
             raise HeaderError(f"status: {self.status} is none of 401, 403, 429 and 503")
         if self.status == 401 and not challenge:
             raise HeaderError("challenge: a 401 has one (RFC 9110, section 11.6.1)")
-        if _library.NO_VALUE.search(challenge):
+        if not _library.is_value(challenge):
             raise _library.rejected("challenge", [challenge])
         seconds = None if self.retry_after is None else _library.to_number(self.retry_after, "retry_after")
         object.__setattr__(self, "_given", (challenge, seconds, int(self.status)))
@@ -383,7 +383,7 @@ class Resource:
     def _refused(self, methods: Tuple[Method, ...]) -> HeaderError:
         known = [("methods", it.name) for it in methods] + [("implemented", it) for it in self.implemented or ()]
         for name, method in known:
-            if not _library.TOKEN.fullmatch(method):
+            if not _library.is_token(method):
                 return HeaderError(f"{name}: {method!r} is no token (RFC 9110, section 9.1)")
         if self.state >= State.MOVED_PERMANENTLY and not self.location:
             return HeaderError("location: a resource that has moved needs one")
@@ -399,7 +399,7 @@ class Resource:
                  "languages", "codings", "etags", "implemented")
         for name, text in zip(names, self._texts):
             for line in text.split(b"\n"):
-                if _library.NO_VALUE.search(line):
+                if not _library.is_value(line):
                     return _library.rejected(name, [line])
         return HeaderError("representations: a date lies past the year 9999")
 
@@ -413,7 +413,7 @@ def _wrong_request(method: bytes, target: bytes, section: bytes, version: int) -
         _library.canonical_text(section)
     except HeaderError as error:
         return error
-    if not _library.TOKEN.fullmatch(_library.to_str(method)):
+    if not _library.is_token(method):
         return HeaderError(f"method: {_library.to_str(method)!r} is no token (RFC 9110, section 9.1)")
     if version not in _VERSIONS:
         return HeaderError(f"version: {version} is none of 10, 11, 20 and 30")

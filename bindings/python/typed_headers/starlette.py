@@ -108,7 +108,7 @@ def _parameter(given: inspect.Parameter, hint: Any) -> Optional[_Parameter]:
     if name is None:
         raise TypeError(f"{given.name}: no field is named, and {kind} isn't the type of a single one")
     field = name.lower()
-    if not _library.TOKEN.fullmatch(field):
+    if not _library.is_token(field):
         raise HeaderError(f"{given.name}: {name!r} is no field name (RFC 9110, section 5.1)")
     made = _plain(_TYPES.get(field)).get(kinds[0])
     if len(kinds) != 1 or made is None and kinds[0] is not str and kinds[0] != _TYPES.get(field):

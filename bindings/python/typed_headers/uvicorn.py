@@ -416,7 +416,7 @@ def run() -> None:
     for option in main.params:
         if option.name == "http":
             option.callback = lambda context, parameter, value: protocol
-    main(prog_name="python3 -m typed_headers.uvicorn")
+    main.main(prog_name="python3 -m typed_headers.uvicorn")
 
 
 if __name__ == "__main__":

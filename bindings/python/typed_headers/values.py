@@ -3,7 +3,6 @@
 Texts are `str` with a character for each byte (ISO 8859-1), as in WSGI and `http.client`.
 """
 
-import re
 from base64 import b64encode
 from dataclasses import dataclass, field
 from datetime import datetime, timedelta, timezone
@@ -18,8 +17,11 @@ from .errors import HeaderError, InvalidField
 # (a name of this module is found in half the time)
 _read_content_range = _library.calls.content_range_as
 _read_ranges = _library.calls.ranges_as
+_first_named = _library.calls.first_named
 _made = _library.made
 _NO_MEMORY = int(_library.Status.NO_MEMORY)
+#: The form of a list whose elements may have parameters, and the parts of its one element `*`.
+_ELEMENTS, _ANY = 0, [[("n", "*", None)]]
 
 __all__ = [
     "ByteRange",
@@ -208,11 +210,12 @@ class ETags(Parsed):
 
     @classmethod
     def _otherwise(cls, status: int, lines: Tuple[Text, ...]) -> "ETags":
-        """What lines without tags are: empty, or `*`. (A list past ASCII has no members.)"""
-        text = b"".join(_library.to_lines("if-none-match", lines)).strip(b", \t")
-        if status or text not in (b"", b"*"):
+        """What lines without tags are: empty, or `*`."""
+        found = _library.calls.groups(None, lines[0], lines[1:], _ELEMENTS)
+        status = found if isinstance(found, int) else status
+        if status or found not in ([], _ANY):
             raise _library.failed(status, "if-none-match", lines)
-        return _made(cls, tags=(), is_any=text == b"*")
+        return _made(cls, tags=(), is_any=found == _ANY)
 
     def __str__(self) -> str:
         return "*" if self.is_any else ", ".join(map(str, self.tags))
@@ -319,14 +322,22 @@ class MediaType(Parsed):
     @property
     def charset(self) -> Optional[str]:
         """The parameter `charset`, if there is one."""
-        return self.parameter("charset")
+        value = _first_named(self.parameters, "charset")
+        return value if value is None or value[:1] != '"' else _meant(value)
 
     def parameter(self, name: str) -> Optional[str]:
         """The first parameter of a name, without quotes and backslashes (RFC 9110, section 5.6.4)."""
-        for other, value in self.parameters:
-            if other == name.lower():
-                return re.sub(r"\\(.)", r"\1", value[1:-1]) if value.startswith('"') else value
-        return None
+        value = _library.first_named(self.parameters, name)
+        return None if value is None else _meant(value)
+
+
+def _meant(value: str) -> str:
+    """What the value of a parameter means, which is itself if it is a token."""
+    if value[:1] != '"':
+        return value
+    status, shown = _library.calls.field_parts(_ELEMENTS, (f"a={value}",))
+    _library.check(status, lambda: HeaderError(f"{value!r} is no value of a parameter"))
+    return _library.to_str(shown[len("pa=") : -len("\n\n")])
 
 
 # The directives in the order of the library's call.
@@ -389,7 +400,7 @@ class CacheControl(Parsed):
                 object.__setattr__(self, name, _library.to_number(seconds, name))
         for name in _NAMES:
             for field_name in getattr(self, name):
-                if not _library.TOKEN.fullmatch(field_name):
+                if not _library.is_token(field_name):
                     raise HeaderError(f"{name}: {field_name!r} is no field name (RFC 9110, section 5.1)")
 
     if TYPE_CHECKING:

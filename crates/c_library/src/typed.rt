@@ -9,14 +9,15 @@ ghost use Rattle.c_typed.{specs.Credentials.{ShowsUserPassword, basic_reads, bea
 ghost use Rattle.c_typed.{specs.Hosts.{ShowsOrigin, is_whole_host, is_whole_origin}, specs.Members.ShowsMembers};
 ghost use Rattle.c_typed.{specs.Members.{ShowsMembership, reads_list}, specs.Policies.{ShowsRetryTime, ShowsSecurity}};
 ghost use Rattle.c_typed.specs.{Directives.{ShowsArguments, ShowsStale}, Parameters.{ShowsExtended, WritesParameter}};
+ghost use Rattle.c_typed.specs.Parameters.{FindsParameter};
 ghost use Rattle.c_typed.specs.{Parts.ShowsForm, Shown.{FieldShows, FieldShowsIf, LinesShow}};
 
 use crate::giving::give;
 use c_parts::{ContentRangeParts, DONE, copy_into};
 use c_typed::{
     OriginParts, PortNumber, RetryTime, StaleDirectives, TransportSecurity, arguments_text,
-    cookies_text, find_cookie, has_member, members_text, parts_text, read_content_range,
-    read_disposition, read_extended, read_host, read_origin, read_retry_after,
+    cookies_text, find_cookie, find_parameter, has_member, members_text, parts_text,
+    read_content_range, read_disposition, read_extended, read_host, read_origin, read_retry_after,
     read_stale_directives, read_token, read_transport_security, read_user_password,
     write_parameter,
 };
@@ -305,4 +306,17 @@ pub extern "C" fn typed_headers_format_parameter(
         Ok(parameter) => copy_into(parameter.as_slice(), DONE, room, written),
         Err(failure) => failure.status(),
     }
+}
+
+/// The place of the first parameter that has a name, by the names of all (RFC 9110, section 5.6.6).
+#[unsafe(no_mangle)]
+pub extern "C" fn typed_headers_parameter_place(
+    alloc: Global,
+    names: &[u8],
+    name: &[u8],
+    place: &mut usize,
+) -> u8
+    ensures { Gives (FindsParameter name.now names.now) place.old place.new result }
+{
+    give(find_parameter(alloc, names, name), place)
 }

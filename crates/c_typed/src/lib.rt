@@ -19,7 +19,7 @@ pub use crate::hosts::{
     HostText, OriginParts, OriginText, PortNumber, is_port_part, read_host, read_origin,
 };
 pub use crate::members::{has_member, members_text};
-pub use crate::parameters::{read_extended, write_parameter};
+pub use crate::parameters::{find_parameter, read_extended, write_parameter};
 pub use crate::parts::parts_text;
 pub use crate::policies::{
     RetryTime, TransportSecurity, read_retry_after, read_transport_security,

@@ -1,11 +1,12 @@
 //! Parameters, and texts of parameters whose names end in `*`.
 ghost use Rattle.std.specs.{Prelude.{◌≡◌}, Bool.MatchBool, List.list_all, Str.IsUtf8};
 ghost use Rattle.http_header.specs.Token.{is_value_byte};
-ghost use Rattle.c_typed.specs.Parameters.{IsText, ShowsExtended, WritesKind, WritesParameter, kind_of};
+ghost use Rattle.c_typed.specs.Parameters.{FindsParameter, IsText, ShowsExtended, WritesKind, WritesParameter, kind_of};
 
+use c_decisions::{given, values_of};
 use c_parts::Failure;
 use rfc_fields::is_token;
-use rfc_lists::{ParameterKind, extended_text, parameter_text};
+use rfc_lists::{ParameterKind, extended_text, parameter_text, place_named};
 use std::alloc::Global;
 use std::str;
 
@@ -93,4 +94,13 @@ fn write_kind(
     } else {
         Err(Failure::Refused)
     }
+}
+
+/// Returns the place, from 0, of the first parameter that has a name, in any case (RFC 9110, section 5.6.6). The names
+/// of all parameters are one a line. `Absent` if none has it, `Refused` if a line can't be a field value.
+pub fn find_parameter(alloc: Global, names: &[u8], name: &[u8]) -> Result<usize, Failure>
+    ensures { FindsParameter name.now names.now result }
+{
+    let names = values_of(alloc, names)?;
+    given(place_named(name, names.as_slice()))
 }

@@ -4,5 +4,6 @@ mod ElementLemmas
 mod ExtendedLaws
 mod ExtendedLemmas
 mod LinkLemmas
+mod NamedLemmas
 mod ParameterLaws
 mod SplitLemmas

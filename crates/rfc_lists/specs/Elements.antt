@@ -9,9 +9,18 @@ use Rattle.rfc_lists.specs.{Caches.{name_line, status_lines}, Lines.{between_sem
 use Rattle.rfc_lists.specs.{Lines.{member_line, parameter_line, text_line, with_argument}, declared.elements.Form.Form}
 use Rattle.rfc_lists.specs.declared.elements.Form.TheVariants.{Element, Disposition, Hop, Cache}
 
--- the type of a disposition, in lower case (RFC 6266, section 4.1)
+-- the content is saved, and not shown: so is that of each type but `inline`, in any case, as a recipient handles a type
+-- that it doesn't know like `attachment` (RFC 6266, section 4.2)
+abbrev pub is_attachment : List ℕ → Bool
+is_attachment type = not (same_name type (codes "inline"))
+
+-- `a`
+abbrev pub attachment_line : List ℕ → List ℕ
+attachment_line type = if is_attachment type then 97 ∷ 10 ∷ [] else []
+
+-- the type of a disposition, in lower case (section 4.1), and whether it is an attachment
 abbrev pub type_line : List ℕ → List ℕ
-type_line text = if is_token text then line 110 (lowercase text) else malformed_line
+type_line text = if is_token text then line 110 (lowercase text) ++ attachment_line text else malformed_line
 
 -- what is before the first semicolon
 abbrev pub first_line : Form → List ℕ → List ℕ

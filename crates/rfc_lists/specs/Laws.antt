@@ -1,10 +1,12 @@
 -- Theorems about the definitions alone.
 use Rattle.std.specs.{Prelude.{◌≡◌, ℕ, Bool, true, false, List, map, nat_lt, Some, option_map}, List.flat_map}
-use Rattle.{std.specs.{List.list_all, Str.is_utf8}, http_header.specs.Token.is_value_byte}
-use Rattle.{percent_encoding.specs.Percent.percent_decode, rfc_fields.specs.Directives.{DirectiveParts, IsDirective}}
-use Rattle.{rfc_fields.specs.Values.{is_token, octets_of}, rfc_lists.specs.Extended.{ValueChar, are_value_chars}}
-use Rattle.rfc_lists.specs.Extended.{char_octet, char_text, extended_text, extended_value, is_value_char}
+use Rattle.std.specs.{Prelude.{option_and_then, slice_get}, List.list_all, Str.is_utf8}
+use Rattle.{http_header.specs.Token.is_value_byte, percent_encoding.specs.Percent.percent_decode}
+use Rattle.rfc_fields.specs.{Directives.{DirectiveParts, IsDirective}, Scan.Member.Whole, Values.{is_token, octets_of}}
+use Rattle.rfc_lists.specs.{Attributes.attribute_in, Extended.{ValueChar, are_value_chars, char_octet, char_text}}
+use Rattle.rfc_lists.specs.{Extended.{extended_text, extended_value, is_value_char}, Named.{named, place_named}}
 use Rattle.rfc_lists.specs.{Parameters.{is_extended, parameter_text}, declared.parameters.ParameterKind.ParameterKind}
+use Rattle.rfc_lists.specs.declared.named.Counts.TheVariants.{First}
 
 -- value-chars are found to be such, and mean the octet of each
 abbrev pub ValueCharsParse : Type 0
@@ -39,3 +41,8 @@ abbrev pub ParametersReadBack : Type 0
 ParametersReadBack = (kind : ParameterKind) (name text : List ℕ) → is_token name ≡ true
     → list_all is_value_byte text ≡ true → is_extended kind text ≡ false
     → (d : DirectiveParts) × IsDirective (parameter_text kind name text) d × Means name text d
+
+-- the first of some parameters that has a name is at the place of that name among the names of all
+abbrev pub FirstIsAtItsPlace : Type 0
+FirstIsAtItsPlace = (name : List ℕ) (texts : List (List ℕ)) → named First name (map Whole texts)
+    ≡ option_and_then (slice_get texts) (place_named name (map (λ text. (attribute_in text).0) texts))

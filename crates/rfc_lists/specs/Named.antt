@@ -1,9 +1,10 @@
 -- Parameters by their names, and the text of a name that parameters may say in two ways.
-use Rattle.std.specs.Prelude.{ℕ, List, [], ◌∷◌, Option, Some, None, is_some, option_and_then, option_map, if◌then◌else◌}
-use Rattle.{std.specs.Option.{option_map_or, option_or}, headers_syntax.specs.AsciiCase.same_name}
-use Rattle.rfc_fields.specs.{Directives.{DirectiveParts, directive_in}, Members.members_of, Values.octets_of}
-use Rattle.{rfc_fields.specs.Scan.{Member, Member.{Whole, Malformed}}, rfc_lists.specs.Attributes.attribute_in}
-use Rattle.rfc_lists.specs.{Extended.extended_text, Lines.{between_semicolons, line, squeezed}}
+use Rattle.std.specs.Prelude.{ℕ, List, [], ◌∷◌, Option, Some, None, is_some, option_and_then, option_map, position}
+use Rattle.std.specs.{Prelude.if◌then◌else◌, Option.{option_map_or, option_or}}
+use Rattle.{headers_syntax.specs.AsciiCase.same_name, rfc_fields.specs.{Directives.{DirectiveParts, directive_in}}}
+use Rattle.rfc_fields.specs.{Members.members_of, Scan.{Member, Member.{Whole, Malformed}}, Values.octets_of}
+use Rattle.rfc_lists.specs.{Attributes.attribute_in, Extended.extended_text}
+use Rattle.rfc_lists.specs.{Lines.{between_semicolons, line, squeezed}}
 use Rattle.rfc_lists.specs.declared.named.Counts.{Counts, TheVariants.{First, Last}}
 
 -- the parameters of an element, which follow what is before its first semicolon
@@ -29,6 +30,10 @@ counted Last one other = option_or other one
 unfoldable pub named : Counts → List ℕ → List Member → Option (List ℕ)
 named counts name [] = None
 named counts name (member ∷ members) = counted counts (with_name name member) (named counts name members)
+
+-- the place, from 0, of the first of some names that is this one, in any case (RFC 9110, section 5.6.6)
+abbrev pub place_named : List ℕ → List (List ℕ) → Option ℕ
+place_named name names = position (λ other. same_name other name) names
 
 -- the octets of the value of a parameter, if it has one
 abbrev pub octets_in : List ℕ → Option (List ℕ)

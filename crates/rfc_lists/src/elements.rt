@@ -3,8 +3,8 @@ ghost use Rattle.std.specs.Prelude.{◌≡◌, ◌++◌, ◌∷◌, [], ◌&&◌
 ghost use Rattle.std.specs.List.{list_any};
 ghost use Rattle.headers_syntax.specs.{AsciiCase.same_name, Lines.lines_of};
 ghost use Rattle.rfc_fields.specs.{Members.member_of, Scan.Member};
-ghost use Rattle.rfc_lists.specs.Elements.{are_pairs, element_text, elements_text, first_line};
-ghost use Rattle.rfc_lists.specs.Elements.{is_hop, is_new, is_other};
+ghost use Rattle.rfc_lists.specs.Elements.{are_pairs, attachment_line, element_text, elements_text, first_line};
+ghost use Rattle.rfc_lists.specs.Elements.{is_attachment, is_hop, is_new, is_other};
 ghost use Rattle.rfc_lists.specs.Elements.{pair_name, part_line, parts_text, shown_element, type_line, values_text};
 ghost use Rattle.rfc_lists.specs.Elements.{with_first};
 
@@ -47,8 +47,9 @@ pub fn elements_text(
     Ok(text)
 }
 
-/// Returns the values of all field lines in order, each as an element: a comma separates nothing. A disposition has the
-/// name of its file behind its other parameters (RFC 6266, section 4.3). Fails only if an allocation fails.
+/// Returns the values of all field lines in order, each as an element: a comma separates nothing. A disposition has `a`
+/// behind its type if the content is to be saved (RFC 6266, section 4.2), and the name of its file behind its other
+/// parameters (section 4.3). Fails only if an allocation fails.
 pub fn values_text(
     alloc: Global,
     form: Form,
@@ -137,6 +138,22 @@ fn push_type(text: &mut Vec<u8>, first: &[u8]) -> Result<(), AllocError>
     text.push(b'n')?;
     push_lowercase(text, first)?;
     text.push(b'\n')?;
+    push_attachment(text, first)
+}
+
+// Whether a disposition of this type says that the content is to be saved.
+fn is_attachment(type_name: &[u8]) -> bool
+    ensures { result ≡ is_attachment type_name.now }
+{
+    !type_name.eq_ignore_ascii_case(b"inline")
+}
+
+fn push_attachment(text: &mut Vec<u8>, type_name: &[u8]) -> Result<(), AllocError>
+    ensures { OnOk result (text.new.items ≡ text.old.items ++ attachment_line type_name.now) }
+{
+    if is_attachment(type_name) {
+        text.extend_from_slice(b"a\n")?;
+    }
     Ok(())
 }
 

@@ -1,5 +1,6 @@
 //! Theorems about the definitions alone. To cite one in a proof, call it.
-ghost use Rattle.rfc_lists.specs.Laws.{ExtendedReadsBack, ParametersReadBack, ValueCharsAreSuch, ValueCharsParse};
+ghost use Rattle.rfc_lists.specs.Laws.{ExtendedReadsBack, FirstIsAtItsPlace, ParametersReadBack, ValueCharsAreSuch};
+ghost use Rattle.rfc_lists.specs.Laws.{ValueCharsParse};
 
 use rfc_fields::laws::quoted_strings_parse;
 
@@ -27,3 +28,9 @@ pub fn parameters_read_back()
 {
     quoted_strings_parse();
 }
+
+/// Theorem: the first of some parameters that has a name is at the place of that name among the names of all.
+#[tactic(auto, using(crate::proofs::NamedLemmas::first_is_at_its_place))]
+pub fn first_is_at_its_place()
+    ensures { FirstIsAtItsPlace }
+{}

@@ -8,6 +8,7 @@
 //! - `e`, `o`: the text of the name of a file, or of a title: an extended value (RFC 8187), or octets.
 //! - `s`: the scheme of a challenge. `k`: the token68 that may follow it.
 //! - `r`: what browsers reject a cookie by.
+//! - `a`, without a text: a recipient saves the content (RFC 6266, section 4.2).
 //! - `!`, without a text: what is here is malformed.
 //!
 //! An empty line ends each element. No text has a byte 10, since no field value has.
@@ -31,5 +32,6 @@ pub use crate::elements::{Form, elements_text, values_text};
 pub use crate::extended::extended_text;
 pub use crate::lines::push_octets;
 pub use crate::links::links_text;
+pub use crate::named::place_named;
 pub use crate::parameters::{ParameterKind, parameter_text};
 pub use crate::set_cookies::set_cookies_text;

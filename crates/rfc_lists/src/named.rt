@@ -1,11 +1,13 @@
 //! Parameters by their names.
-ghost use Rattle.std.specs.Prelude.{◌≡◌, ◌++◌, option_map, IfOk, OnOk};
+ghost use Rattle.std.specs.Prelude.{◌≡◌, ◌++◌, option_map, IfOk, OnOk, position};
+ghost use Rattle.{http_header.specs.FieldValue.FieldValue, headers_syntax.specs.{AsciiCase.same_name, Lines.lines_of}};
 ghost use Rattle.rfc_fields.specs.Members.{member_of};
-ghost use Rattle.rfc_lists.specs.Named.{first_octets, named, named_line, parameters_in, with_name};
+ghost use Rattle.rfc_lists.specs.Named.{first_octets, named, named_line, parameters_in, place_named, with_name};
 
 use crate::attributes::attribute_in;
 use crate::extended::extended_text;
 use crate::lines::{push_line, squeezed};
+use http_header::HeaderValue;
 use rfc_fields::{Malformed, Parameterized, directive_in};
 use std::alloc::{AllocError, Global};
 
@@ -46,6 +48,23 @@ pub(crate) fn named<'a>(counts: Counts, name: &[u8], element: &'a [u8]) -> Optio
         };
     }
     found
+}
+
+/// Returns the place, from 0, of the first parameter that has this name, in any case (RFC 9110, section 5.6.6), by the
+/// names of all.
+#[tactic(auto, using(crate::proofs::NamedLemmas::place_in_values))]
+pub fn place_named(name: &[u8], names: &[HeaderValue]) -> Option<usize>
+    ensures { result ≡ place_named name.now (lines_of names.now) }
+{
+    place_in(name, names)
+}
+
+fn place_in(name: &[u8], names: &[HeaderValue]) -> Option<usize>
+    ensures { result ≡ position (λ (v : FieldValue). same_name v.bytes name.now) names.now }
+{
+    names
+        .iter()
+        .position(|other| other.as_bytes().eq_ignore_ascii_case(name))
 }
 
 /// Returns the octets of the value that the first parameter of a name has.

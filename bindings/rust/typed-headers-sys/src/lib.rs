@@ -948,6 +948,13 @@ extern "C" {
         room_length: usize,
         written: *mut usize,
     ) -> u8;
+    pub fn typed_headers_parameter_place(
+        names: *const u8,
+        names_length: usize,
+        name: *const u8,
+        name_length: usize,
+        place: *mut usize,
+    ) -> u8;
     pub fn typed_headers_section_free(fields: *mut Section) -> u8;
     pub fn typed_headers_cors_policy_free(policy: *mut CorsPolicy) -> u8;
     pub fn typed_headers_resource_handle_free(handle: *mut ResourceHandle) -> u8;
