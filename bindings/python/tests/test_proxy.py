@@ -703,6 +703,18 @@ class Clients(ProxyTest):
             self.assertIn(f"answered by {status}: ", log.output[0])
             self.assertIn(str(error), log.output[0])
 
+    def test_mounted(self) -> None:
+        """Where Starlette mounts it at a part of the path, the origin server gets the whole path."""
+        try:
+            from starlette.applications import Starlette
+            from starlette.routing import Mount
+        except ImportError as error:
+            raise unittest.SkipTest(str(error)) from None
+        client = httpx.AsyncClient(verify=False)
+        self.begin(plain(), lambda proxy: Starlette(routes=[Mount("/api", proxy)]), client=client)
+        self.assertEqual((self.ask("/api/a%2Fb?c").content, self.last.line), (b"hello", b"GET /api/a%2Fb?c HTTP/1.1"))
+        self.assertEqual((self.ask("/b").status, len(self.origin.asked)), (404, 1))
+
     def test_reasons(self) -> None:
         self.begin(plain(b"hello", b"Connection: Content-Length"))
         with self.assertLogs("typed_headers.proxy", "INFO") as log:
