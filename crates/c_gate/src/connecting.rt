@@ -1,13 +1,15 @@
 //! CONNECT: which target it may go to, and the tunnel there (RFC 9110, section 9.3.6).
-ghost use Rattle.std.specs.Prelude.{◌≡◌, option_map};
+ghost use Rattle.std.specs.Prelude.{◌≡◌};
 ghost use Rattle.headers_section.specs.Section.{input_lines};
 ghost use Rattle.headers_syntax.specs.AsciiCase.{same_name};
 ghost use Rattle.gateway_exchange.specs.Steps.{Connects};
-ghost use Rattle.c_gate.specs.{Calls.{Does, OnGate}, Connecting.{ConnectsTo, connect_authority, place_from}};
+ghost use Rattle.c_gate.specs.{Calls.{Does, OnGate}, Connecting.{ConnectsAt, ConnectsTo, place_asked}};
+ghost use Rattle.c_gate.specs.Connecting.{place_for, place_from};
 
 use crate::calling::change;
 use c_handles::{Handle, HeldGate};
 use c_parts::{Failure, cut_line};
+use gateway_exchange::AskedRequest;
 use http::{Method, StatusCode};
 use std::alloc::Global;
 
@@ -36,24 +38,30 @@ fn place_of(authority: &[u8], targets: &[u8]) -> Option<u64>
     }
 }
 
-fn connect_authority(gate: &HeldGate) -> Option<&[u8]>
-    ensures { option_map (λ bytes. bytes.now) result ≡ connect_authority gate.now.connection.asked }
+// The same of the target of a CONNECT. `None` if the request is no CONNECT.
+fn place_for(request: &AskedRequest, targets: &[u8]) -> Option<Option<u64>>
+    ensures { result ≡ place_for targets.now request.now }
 {
-    match gate.connection.request() {
-        Some(request) if request.head.method == Method::CONNECT => {
-            Some(request.outgoing.target.as_slice())
-        }
-        _ => None,
+    if request.head.method == Method::CONNECT {
+        Some(place_of(request.outgoing.target.as_slice(), targets))
+    } else {
+        None
     }
 }
 
-fn connect_to_in(gate: &mut HeldGate, targets: &[u8]) -> Result<u64, Failure>
-    ensures { ConnectsTo targets.now gate.old gate.new result }
+fn place_asked(gate: &HeldGate, targets: &[u8]) -> Option<Option<u64>>
+    ensures { result ≡ place_asked targets.now gate.now.connection.asked }
 {
-    let Some(authority) = connect_authority(gate) else {
-        return Err(Failure::Absent);
-    };
-    let place = place_of(authority, targets);
+    match gate.connection.request() {
+        Some(request) => place_for(request, targets),
+        None => None,
+    }
+}
+
+// No request follows a CONNECT.
+fn connect_at(gate: &mut HeldGate, place: Option<u64>) -> Result<u64, Failure>
+    ensures { ConnectsAt place gate.old gate.new result }
+{
     gate.connection.close_after();
     match place {
         Some(place) => Ok(place),
@@ -61,6 +69,15 @@ fn connect_to_in(gate: &mut HeldGate, targets: &[u8]) -> Result<u64, Failure>
             gate.connection.answer(StatusCode::FORBIDDEN);
             Err(Failure::Refused)
         }
+    }
+}
+
+fn connect_to_in(gate: &mut HeldGate, targets: &[u8]) -> Result<u64, Failure>
+    ensures { ConnectsTo targets.now gate.old gate.new result }
+{
+    match place_asked(gate, targets) {
+        Some(place) => connect_at(gate, place),
+        None => Err(Failure::Absent),
     }
 }
 
