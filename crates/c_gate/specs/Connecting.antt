@@ -10,7 +10,7 @@ use Rattle.c_gate.specs.{Answers.AnswersBy, Calls.Becomes}
 
 -- The number of the first of these texts, counted from this one, that is the authority: the same host, in any case
 -- (section 4.2.3), and the same port. One in another spelling is another.
-pub place_from : ℕ → (authority : List ℕ) → (targets : List (List ℕ)) → Option ℕ
+unfoldable pub place_from : ℕ → (authority : List ℕ) → (targets : List (List ℕ)) → Option ℕ
 place_from n authority [] = None
 place_from n authority (target ∷ targets) =
     if same_name target authority then Some n else place_from (suc n) authority targets

@@ -20,6 +20,7 @@ fn is_target(target: &[u8], authority: &[u8]) -> bool
 }
 
 // The number of the first of these lines that is the authority.
+#[tactic(auto, unfolding(crate::specs::Connecting::place_from))]
 fn place_of(authority: &[u8], targets: &[u8]) -> Option<u64>
     ensures { result ≡ place_from 0 authority.now (input_lines targets.now) }
 {
@@ -27,13 +28,14 @@ fn place_of(authority: &[u8], targets: &[u8]) -> Option<u64>
     let mut place = 0;
     loop {
         let (target, after) = cut_line(rest);
-        if is_target(target, authority) {
+        let is_here = is_target(target, authority);
+        let Some(after) = after else {
+            return is_here.then_some(place);
+        };
+        if is_here {
             return Some(place);
         }
-        match after {
-            Some(after) => rest = after,
-            None => return None,
-        }
+        rest = after;
         place += 1;
     }
 }

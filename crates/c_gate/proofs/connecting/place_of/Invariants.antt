@@ -2,11 +2,11 @@ use Rattle.{std.proofs.Common.{◌≡◌, ◌≤◌, ◌+◌, length}, headers_s
 use Rattle.c_gate.specs.Connecting.{place_from}
 use Rattle.c_gate.proofs.connecting.place_of.Given as goal
 
-abbrev pub invariant-loop-rest : goal.invariant-loop-rest
-invariant-loop-rest l =
+abbrev pub invariant-loop-after : goal.invariant-loop-after
+invariant-loop-after l =
     (place_from l.place l.fn.authority (input_lines l.rest)
     ≡ place_from 0 l.fn.authority (input_lines l.fn.targets))
     × (l.place + length l.rest ≤ length l.fn.targets)
 
-abbrev pub decreases-loop-rest : goal.decreases-loop-rest
-decreases-loop-rest l = length l.rest
+abbrev pub decreases-loop-after : goal.decreases-loop-after
+decreases-loop-after l = length l.rest
