@@ -1,5 +1,5 @@
 -- Which target a CONNECT may go to (RFC 9110, section 9.3.6).
-use Rattle.std.specs.Prelude.{◌≡◌, ℕ, suc, Bool, List, [], ◌∷◌, bytes_eq, codes, if◌then◌else◌, Option, Some, None}
+use Rattle.std.specs.Prelude.{◌≡◌, ℕ, suc, true, List, [], ◌∷◌, bytes_eq, codes, if◌then◌else◌, Option, Some, None}
 use Rattle.{std.specs.Prelude.{Result, Ok, Err}, headers_section.specs.Section.input_lines}
 use Rattle.headers_syntax.specs.AsciiCase.{same_name}
 use Rattle.gateway_exchange.specs.declared.connection.GatewayConnection.{GatewayConnection}
