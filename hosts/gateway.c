@@ -154,12 +154,33 @@ static const char *take_trusted(void *settings, char *value) {
     return NULL;
 }
 
+/* The lines of a text, which may be NULL, and one more. */
+static char *add_line(struct gateway *gateway, const char *text, const char *line) {
+    char *lines;
+    int length = asprintf(&lines, "%s%s\n", text ? text : "", line);
+    if (length < 0)
+        DIE("no memory");
+    char *kept = keep(gateway, lines, (size_t)length);
+    free(lines);
+    return kept;
+}
+
 static const char *take_protected(void *settings, char *value) {
     struct gateway *gateway = settings;
-    const char *before = gateway->protected_fields ? gateway->protected_fields : "";
-    char *lines = keep(gateway, before, strlen(before) + strlen(value) + 1);
-    sprintf(lines + strlen(before), "%s\n", value);
-    gateway->protected_fields = lines;
+    gateway->protected_fields = add_line(gateway, gateway->protected_fields, value);
+    return NULL;
+}
+
+static const char *take_connect(void *settings, char *value) {
+    struct gateway *gateway = settings;
+    const char *colon = strrchr(value, ':');
+    if (!colon || !colon[1] || !strncmp(value, "unix:", 5))
+        return wrong("'%s' is no HOST:PORT or [HOST]:PORT", value);
+    if (gateway->origin_count == MOST_ORIGINS)
+        return wrong("there are more than %d origins and targets", MOST_ORIGINS);
+    gateway->targets = add_line(gateway, gateway->targets, value);
+    gateway->origins[gateway->origin_count++] = (struct origin){
+        .text = keep(gateway, value, strlen(value)), .group = MOST_GROUPS + 1 + gateway->target_count++};
     return NULL;
 }
 
@@ -179,6 +200,7 @@ static const struct row rows[] = {
     {"route", "HOST[/PATH] GROUP", "the group that gets the requests for a host (* for any) below a path", OTHER, 0, 0,
      0, take_route},
     {"name", "TOKEN", "its name in Via (random)", TEXT, AT(name), 0, 0, NULL},
+    {"connect", "HOST:PORT", "CONNECT may open a tunnel to this target", OTHER, 0, 0, 0, take_connect},
     {"authority", "HOST", "Host of a request of HTTP/1.0 without one (localhost)", TEXT, AT(authority), 0, 0, NULL},
     {"forwarded", NULL, "send Forwarded", FLAG, AT(writes_forwarded), 0, 0, NULL},
     {"x-forwarded", NULL, "send X-Forwarded-For, -Host and -Proto", FLAG, AT(writes_x_forwarded), 0, 0, NULL},

@@ -19,7 +19,7 @@ struct entrance {
 struct origin {
     const char *text; /* HOST:PORT, [HOST]:PORT or unix:PATH */
     const char *name; /* that its certificate has to have; NULL for plain connections */
-    size_t group;
+    size_t group; /* of a target of CONNECT: MOST_GROUPS, 1, and the number of its line */
     union {
         struct sockaddr any;
         struct sockaddr_un un;
@@ -49,12 +49,13 @@ struct gateway {
     const char *groups[MOST_GROUPS];
     struct route routes[MOST_ROUTES]; /* in the order in which they are asked */
     struct range trusted[MOST_TRUSTED];
-    size_t origin_count, group_count, route_count, trusted_count;
+    size_t origin_count, target_count, group_count, route_count, trusted_count;
     const char *certificate, *key, *authorities; /* NULL for none, and for those of the system */
 
     /* What the library decides by. */
     const char *name, *authority;
     char *protected_fields; /* a line for each */
+    char *targets;          /* of CONNECT, a line for each; NULL for none */
     bool writes_forwarded, writes_x_forwarded, passes_underscores, answers_expect;
     uint64_t most_head;
     uint64_t cache_bytes, cache_guess, cache_wait; /* bytes of a worker, and seconds */

@@ -75,6 +75,7 @@ struct exchange {
     struct address client, told; /* who has the connection, and of whom that tells */
     uint64_t tried;              /* the origins that failed for this request, a bit each */
     uint64_t begun;              /* when the request came */
+    size_t target;               /* the group that has the target of a CONNECT alone; 0 for other requests */
     uint64_t date;               /* the second that its gateway knows */
     uint64_t given, left;        /* where the content of the pass goes on, and how much is left of it */
     uint64_t passed;             /* bytes of content that the client gets */
@@ -329,7 +330,8 @@ static void forward(struct exchange *exchange, struct upstream *upstream) {
     upstream->is_connected = true;
     upstream->end.is_readable = upstream->end.tls != NULL; /* OpenSSL may hold bytes already; otherwise epoll tells */
     wait_in(&upstream->end.source, NULL);
-    if (typed_headers_gate_forward(&exchange->gate, &upstream->connection))
+    if (exchange->target ? typed_headers_gate_connected(&exchange->gate)
+                         : typed_headers_gate_forward(&exchange->gate, &upstream->connection))
         exchange->is_over = true;
 }
 
@@ -344,12 +346,12 @@ static size_t group_asked(struct exchange *exchange) {
         if (is)
             return route->group;
     }
-    return gateway->route_count ? MOST_GROUPS : 0; /* without routes the first group gets all */
+    return gateway->route_count || !gateway->group_count ? MOST_GROUPS : 0; /* without routes the first gets all */
 }
 
 /* Finds a connection for the request that waits. It goes out over one that is idle at once. */
 static void ask_origin(struct exchange *exchange) {
-    size_t group = group_asked(exchange), origin;
+    size_t group = exchange->target ? exchange->target : group_asked(exchange), origin;
     if (group == MOST_GROUPS) {
         abandon_pass(exchange);
         answer(exchange, 404);
@@ -717,9 +719,21 @@ static void give_metrics(struct exchange *exchange) {
         typed_headers_gate_push(&exchange->gate, own.buffer, length) || typed_headers_gate_end(&exchange->gate);
 }
 
+/* Begins a connection to the target of a CONNECT. Returns false if the request is none. */
+static bool begin_connect(struct exchange *exchange) {
+    const uint8_t *targets = (const uint8_t *)gateway->targets;
+    uint64_t number;
+    uint8_t status = typed_headers_gate_connect_to(&exchange->gate, targets, strlen(gateway->targets), &number);
+    if (status == TYPED_HEADERS_DONE) {
+        exchange->target = MOST_GROUPS + 1 + number;
+        ask_origin(exchange);
+    }
+    return status != TYPED_HEADERS_ABSENT;
+}
+
 static void begin_request(struct exchange *exchange) {
     exchange->begun = worker.now;
-    exchange->tried = exchange->passed = 0;
+    exchange->tried = exchange->passed = exchange->target = 0;
     exchange->status = 0;
     exchange->failure = 502;
     exchange->cached = NO_CACHE;
@@ -731,6 +745,8 @@ static void begin_request(struct exchange *exchange) {
         exchange->is_over = true;
     if (exchange->entrance->is_metrics)
         give_metrics(exchange);
+    else if (gateway->targets && begin_connect(exchange))
+        return;
     else if (own.cache.is_open)
         begin_pass(exchange);
     else
@@ -768,7 +784,7 @@ static void end_request(struct exchange *exchange, uint8_t phase) {
 
 static void begin_tunnel(struct exchange *exchange) {
     if (exchange->is_asked)
-        conclude(exchange, 101);
+        conclude(exchange, exchange->target ? 200 : 101);
     abandon_pass(exchange);
     exchange->is_tunnel = true;
     exchange->is_over = typed_headers_gate_tunnel(&exchange->gate) != TYPED_HEADERS_DONE;
@@ -1025,7 +1041,8 @@ static void open_rules(void) {
                                                        .writes_forwarded = gateway->writes_forwarded,
                                                        .writes_x_forwarded = gateway->writes_x_forwarded,
                                                        .answers_expect = gateway->answers_expect,
-                                                       .passes_websocket = true};
+                                                       .passes_websocket = true,
+                                                       .passes_connect = gateway->targets != NULL};
     uint8_t status = typed_headers_gate_rules_new(&own.rules, &messages, &options);
     if (status != TYPED_HEADERS_DONE)
         DIE("%s", status == TYPED_HEADERS_REFUSED ? "name, authority or protect isn't one"

@@ -1044,6 +1044,8 @@ struct typed_headers_gate_options {
     bool answers_expect;
     /* Whether an opening handshake of a WebSocket goes on as one (RFC 6455). */
     bool passes_websocket;
+    /* Whether a CONNECT waits for `typed_headers_gate_connect_to`. Otherwise it is answered by 501. */
+    bool passes_connect;
 };
 
 /* The client of a connection. */
@@ -2159,6 +2161,21 @@ uint8_t typed_headers_gate_fields(struct typed_headers_gate *gate, uint8_t *room
  */
 uint8_t typed_headers_gate_is_for(struct typed_headers_gate *gate, const uint8_t *host, size_t host_length,
                                   const uint8_t *path, size_t path_length, uint8_t *answer);
+
+/*
+ * Which of these authorities, one a line, the CONNECT that waits is for (RFC 9110, section 9.3.6): the number, from 0,
+ * of the first with its host, in any case, and its port. Connect there, and then say `typed_headers_gate_connected`, or
+ * answer. Refused: it is for none, and was answered by 403. Absent also: no CONNECT waits. Without a tunnel, the
+ * client's connection ends after the response.
+ */
+uint8_t typed_headers_gate_connect_to(struct typed_headers_gate *gate, const uint8_t *targets, size_t targets_length,
+                                      uint64_t *number);
+
+/*
+ * Answers the CONNECT that waits by 200: then comes TYPED_HEADERS_GATE_TUNNEL. Bytes that the client sent early are the
+ * tunnel's.
+ */
+uint8_t typed_headers_gate_connected(struct typed_headers_gate *gate);
 
 /*
  * Sends these If-None-Match and If-Modified-Since in place of its own, as a cache that validates does. Refused: a line

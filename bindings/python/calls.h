@@ -141,7 +141,7 @@ SHAPE(files_options, MEMBER(files_options, cache_control, A_TEXT), MEMBER(files_
       MEMBER(files_options, boundary, A_TEXT), MEMBER(files_options, negotiates, BOOL))
 SHAPE(gate_options, MEMBER(gate_options, authority, A_TEXT), MEMBER(gate_options, writes_forwarded, BOOL),
       MEMBER(gate_options, writes_x_forwarded, BOOL), MEMBER(gate_options, answers_expect, BOOL),
-      MEMBER(gate_options, passes_websocket, BOOL))
+      MEMBER(gate_options, passes_websocket, BOOL), MEMBER(gate_options, passes_connect, BOOL))
 SHAPE(gate_peer, MEMBER(gate_peer, node, A_TEXT), MEMBER(gate_peer, port, U16), MEMBER(gate_peer, is_secure, BOOL),
       MEMBER(gate_peer, is_trusted, BOOL))
 
@@ -447,6 +447,9 @@ CALL(gate_fields, MAY(ABSENT) | MAY(NO_MEMORY), (at[0].handle.at, ROOM(at[1])), 
      PLAIN(ROOM_OF_BYTES))
 CALL(gate_is_for, MAY(ABSENT), (at[0].handle.at, TEXT_OF(at[1]), TEXT_OF(at[2]), &at[3].u8), OF_HANDLE(OPENED, gate),
      PLAIN(GIVEN_TEXT), PLAIN(GIVEN_TEXT), OF_KIND(OUT_NUMBER, U8))
+CALL(gate_connect_to, MAY(REFUSED) | MAY(ABSENT), (at[0].handle.at, TEXT_OF(at[1]), &at[2].u64),
+     OF_HANDLE(OPENED, gate), PLAIN(GIVEN_TEXT), OF_KIND(OUT_NUMBER, U64))
+CALL(gate_connected, MAY(ABSENT), (at[0].handle.at), OF_HANDLE(OPENED, gate))
 CALL(gate_conditions, MAY(REFUSED) | MAY(ABSENT) | MAY(TOO_LARGE) | MAY(NO_MEMORY), (at[0].handle.at, TEXT_OF(at[1]),
      &keys), OF_HANDLE(OPENED, gate), PLAIN(GIVEN_TEXT))
 CALL(gate_forward, MAY(ABSENT), (at[0].handle.at, at[1].handle.at), OF_HANDLE(OPENED, gate),
@@ -503,7 +506,7 @@ enum { MOST_SLOTS = 9 };
     METHOD(gate_rules_new), METHOD(gate_new), METHOD(gate_origin_new), METHOD(gate_next), METHOD(gate_receive), \
     METHOD(gate_finish), METHOD(gate_output), METHOD(gate_sent), METHOD(gate_clock), METHOD(gate_timed_out), \
     METHOD(gate_close_after), METHOD(gate_method), METHOD(gate_target), METHOD(gate_authority), METHOD(gate_key), \
-    METHOD(gate_field), METHOD(gate_fields), METHOD(gate_is_for), METHOD(gate_conditions), METHOD(gate_forward), \
-    METHOD(gate_again), METHOD(gate_answer), METHOD(gate_respond), METHOD(gate_push), METHOD(gate_end), \
-    METHOD(gate_response), METHOD(gate_pass), METHOD(gate_piece), METHOD(gate_take), METHOD(gate_own), \
-    METHOD(gate_tunnel), METHOD(gate_ask)
+    METHOD(gate_field), METHOD(gate_fields), METHOD(gate_is_for), METHOD(gate_connect_to), METHOD(gate_connected), \
+    METHOD(gate_conditions), METHOD(gate_forward), METHOD(gate_again), METHOD(gate_answer), METHOD(gate_respond), \
+    METHOD(gate_push), METHOD(gate_end), METHOD(gate_response), METHOD(gate_pass), METHOD(gate_piece), \
+    METHOD(gate_take), METHOD(gate_own), METHOD(gate_tunnel), METHOD(gate_ask)

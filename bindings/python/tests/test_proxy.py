@@ -2,6 +2,7 @@
 
 import asyncio
 import hashlib
+import logging
 import os
 import re
 import socket
@@ -13,7 +14,7 @@ import time
 import unittest
 from contextlib import suppress
 from pathlib import Path
-from typing import IO, Any, Callable, Dict, Iterator, List, Optional, Tuple, Union
+from typing import IO, Any, AsyncIterator, Callable, Dict, Iterator, List, Optional, Tuple, Union
 
 from typed_headers import Cache, Gateway, HeaderError
 from typed_headers.asgi import Cached
@@ -22,10 +23,11 @@ try:
     import httpx
     import uvicorn
 
-    from typed_headers.proxy import Proxy
+    from typed_headers.gateway import ClientRequest, ClientResponse, Proxy, Unanswered
 except ImportError as error:
     raise unittest.SkipTest(f"httpx or uvicorn isn't installed: {error}") from None
 
+logging.getLogger("typed_headers.proxy").addHandler(logging.NullHandler())
 Fields = List[Tuple[bytes, bytes]]
 MIB = 1024 * 1024
 #: What an origin server does between the bytes that it sends: it ends the connection, or resets it.
@@ -231,7 +233,7 @@ class ProxyTest(unittest.TestCase):
         self.origin = Origin(pieces if callable(pieces) else lambda asked: pieces)
         self.addCleanup(self.origin.close)
         proxy = Proxy(self.origin.url, Gateway("gw.example"), **options)
-        # (so that the transport of a test is closed, too)
+        # (so that the client of a test is closed, too)
         proxy.is_own = True
         self.serve(proxy if app is None else app(proxy))
 
@@ -277,14 +279,15 @@ class Requests(ProxyTest):
             self.assertEqual(self.last.line, f"GET {sent} HTTP/1.1".encode())
         client.ask("*", method="OPTIONS")
         self.assertEqual(self.last.line, b"OPTIONS * HTTP/1.1")
-        absolute = [("http://B:81/x?y", b"B:81", "/x?y"), ("HTTP://b", b"b", "/"), ("https://b?x", b"b", "/?x")]
+        absolute = [("http://B:81/x?y", b"B:81", "/x?y"), ("HTTP://b", b"b", "/"), ("https://b?x", b"b", "/?x"),
+                    ("http://b:99999", b"b:99999", "/")]
         for target, host, sent in absolute:
             client.ask(target)
             self.assertEqual((self.last.line, self.last.get(b"host")), (f"GET {sent} HTTP/1.1".encode(), [host]))
         client.ask("http://b", method="OPTIONS")
         self.assertEqual(self.last.line, b"OPTIONS * HTTP/1.1")
         count = len(self.origin.asked)
-        for target in ("/a#b", "*", "a", "http://user@b/", "http:///a", "ftp://b/", "http://b:99999/"):
+        for target in ("/a#b", "*", "a", "http://user@b/", "http:///a", "ftp://b/", "http://b:x/"):
             self.assertEqual(self.ask(target).status, 400, target)
         self.assertEqual(self.ask("b:443", method="CONNECT").status, 501)
         self.assertEqual(len(self.origin.asked), count)
@@ -491,7 +494,7 @@ class Failures(ProxyTest):
         reply = self.ask()
         self.assertEqual((reply.status, reply.content, reply.is_whole), (200, b"hello", False))
         limits = httpx.Limits(max_connections=1)
-        self.begin([1.0, plain()], timeout=0.3, transport=httpx.AsyncHTTPTransport(verify=False, limits=limits))
+        self.begin([1.0, plain()], timeout=0.3, client=httpx.AsyncHTTPTransport(verify=False, limits=limits))
         threads = [threading.Thread(target=lambda: found.append(self.ask().status)) for _ in range(2)]
         found: List[int] = []
         for it in threads:
@@ -532,7 +535,7 @@ class Failures(ProxyTest):
         def answer(asked: Asked) -> List[Piece]:
             return [0.02, plain()]
 
-        self.begin(answer, transport=httpx.AsyncHTTPTransport(verify=False))
+        self.begin(answer, client=httpx.AsyncHTTPTransport(verify=False))
         for number in range(100):
             client = Client(self.port)
             client.socket.sendall(b"GET / HTTP/1.1\r\nHost: a\r\n\r\n")
@@ -547,7 +550,7 @@ class Failures(ProxyTest):
 
         cases = [("GET", 0, 200, 3), ("DELETE", 0, 200, 3), ("POST", 0, 502, 2), ("PUT", 1, 502, 2)]
         for method, size, status, count in cases:
-            self.begin(answer, transport=httpx.AsyncHTTPTransport(verify=False))
+            self.begin(answer, client=httpx.AsyncHTTPTransport(verify=False))
             self.assertEqual(self.ask().status, 200)
             lines = [f"Content-Length: {size}"] if size else []
             self.assertEqual(self.ask("/", *lines, method=method, content=b"x" * size).status, status, method)
@@ -557,8 +560,8 @@ class Failures(ProxyTest):
 class Users(ProxyTest):
     def test_cookies_are_the_clients(self) -> None:
         self.begin(lambda asked: [plain(b"", b"Set-Cookie: SID=" + (asked.get(b"x-user") or [b"none"])[0])])
-        for transport in (None, httpx.AsyncHTTPTransport(verify=False)):
-            self.begin(self.origin.answer, transport=transport)
+        for client in (None, httpx.AsyncHTTPTransport(verify=False), httpx.AsyncClient(cookies={"SID": "d"})):
+            self.begin(self.origin.answer, client=client)
             for user in ("a", "b"):
                 self.assertEqual(self.ask("/", f"X-User: {user}").get(b"set-cookie"), [f"SID={user}".encode()])
                 self.ask("/")
@@ -596,8 +599,8 @@ class Users(ProxyTest):
                     wrong.append((user, path, reply.status, reply.content[:50]))
             client.close()
 
-        for transport in (None, httpx.AsyncHTTPTransport(verify=False)):
-            self.begin(answer, lambda proxy: Cached(proxy, Cache(shared=True)), transport=transport)
+        for client in (None, httpx.AsyncHTTPTransport(verify=False)):
+            self.begin(answer, lambda proxy: Cached(proxy, Cache(shared=True)), client=client)
             threads = [threading.Thread(target=use, args=(number,)) for number in range(8)]
             for it in threads:
                 it.start()
@@ -605,6 +608,124 @@ class Users(ProxyTest):
                 it.join()
             self.assertLess(len(self.origin.asked), 200 - 60)
         self.assertEqual((wrong, len(asked)), ([], 400))
+
+
+class Streams:
+    """A client of HTTP over streams of asyncio, with a connection for each request."""
+
+    async def send(self, request: ClientRequest) -> ClientResponse:
+        port = int(request.origin.rpartition(":")[2])
+        reader, writer = await asyncio.open_connection("127.0.0.1", port)
+        lines = [name + b": " + value for name, value in request.fields]
+        head = [request.method.encode() + b" " + request.target + b" HTTP/1.1", *lines, b"", b""]
+        writer.write(b"\r\n".join(head))
+        is_chunked = (b"transfer-encoding", b"chunked") in request.fields
+        if request.content is not None:
+            async for piece in request.content:
+                writer.write(b"%x\r\n%b\r\n" % (len(piece), piece) if is_chunked else piece)
+                await writer.drain()
+            writer.write(b"0\r\n\r\n" if is_chunked else b"")
+        try:
+            head = (await asyncio.wait_for(reader.readuntil(b"\r\n\r\n"), request.timeout)).split(b"\r\n")
+        except BaseException:
+            writer.close()
+            raise
+        first, *fields = head[:-2]
+        pairs = [(it.partition(b":")[0], it.partition(b":")[2].strip()) for it in fields]
+        return Streamed(reader, writer, int(first.split()[1]), 11 if first.startswith(b"HTTP/1.1") else 10, pairs)
+
+
+class Streamed:
+    def __init__(self, reader: Any, writer: Any, status: int, version: int, fields: Fields) -> None:
+        self.reader, self.writer, self.status, self.version, self.fields = reader, writer, status, version, fields
+
+    async def pieces(self) -> AsyncIterator[bytes]:
+        left = int({name.lower(): value for name, value in self.fields}.get(b"content-length", b"0"))
+        while left:
+            piece = await self.reader.read(min(left, 65536))
+            if not piece:
+                raise ConnectionError("it was cut off")
+            left -= len(piece)
+            yield piece
+
+    async def aclose(self) -> None:
+        self.writer.close()
+
+
+class Failing:
+    """A client that gets no response."""
+
+    def __init__(self, error: Exception) -> None:
+        self.error = error
+
+    async def send(self, request: ClientRequest) -> ClientResponse:
+        raise self.error
+
+
+class Clients(ProxyTest):
+    def test_of_httpx(self) -> None:
+        """A client of httpx adds nothing to a request, follows no redirect, and decodes nothing."""
+        user: Dict[str, Any] = {"headers": {"X-Own": "1"}, "cookies": {"a": "b"}, "auth": ("u", "p")}
+        answer = plain(b"no gzip", b"Location: /b", b"Content-Encoding: gzip", b"Set-Cookie: c=d", status="302 Found")
+        self.begin(answer, client=httpx.AsyncClient(verify=False, params={"q": "1"}, follow_redirects=True, **user))
+        for path in ("/a", "/a?b"):
+            reply = self.ask(path)
+            self.assertEqual((reply.status, reply.content, reply.get(b"location")), (302, b"no gzip", [b"/b"]))
+            self.assertEqual(self.last.line, f"GET {path} HTTP/1.1".encode())
+            self.assertEqual(self.last.fields, [(b"host", b"a.example"), (b"via", b"1.1 gw.example")])
+        self.assertEqual((len(self.origin.asked), self.origin.connections), (2, 1))
+        content = b"x" * MIB
+        reply = self.ask("/", f"Content-Length: {len(content)}", method="PUT", content=content)
+        self.assertEqual((reply.status, self.last.size), (302, MIB))
+        self.begin([2.0, CUT], timeout=0.2, client=httpx.AsyncClient(verify=False))
+        self.assertEqual(self.ask().status, 504)
+
+    def test_any(self) -> None:
+        self.begin(lambda asked: [plain(asked.content, b"Connection: X-Hop", b"X-Hop: 1")], client=Streams())
+        self.assertEqual(self.ask("/a").content, b"")
+        reply = self.ask("/", "Content-Length: 5", "Connection: close", method="PUT", content=b"hello")
+        self.assertEqual((reply.content, reply.get(b"x-hop"), self.last.get(b"connection")), (b"hello", [], []))
+        chunks = b"3\r\nhel\r\n2\r\nlo\r\n0\r\n\r\n"
+        self.assertEqual(self.ask("/", "Transfer-Encoding: chunked", method="POST", content=chunks).content, b"hello")
+        self.begin([b"HTTP/1.1 200 OK\r\nContent-Length: 10\r\n\r\nhello", CUT], client=Streams())
+        reply = self.ask()
+        self.assertEqual((reply.status, reply.content, reply.is_whole), (200, b"hello", False))
+        self.begin([1.0, CUT], timeout=0.2, client=Streams())
+        self.assertEqual(self.ask().status, 504)
+
+    def test_without_a_response(self) -> None:
+        errors = [(TimeoutError("late"), 504), (asyncio.TimeoutError(), 504), (ConnectionError("no"), 502),
+                  (ValueError("other"), 502), (Unanswered(503, "busy"), 503)]  # fmt: skip
+        for error, status in errors:
+            self.begin(plain(), client=Failing(error))
+            with self.assertLogs("typed_headers.proxy", "WARNING") as log:
+                self.assertEqual(self.ask().status, status)
+            self.assertIn(f"answered by {status}: ", log.output[0])
+            self.assertIn(str(error), log.output[0])
+
+    def test_mounted(self) -> None:
+        """Where Starlette mounts it at a part of the path, the origin server gets the whole path."""
+        try:
+            from starlette.applications import Starlette
+            from starlette.routing import Mount
+        except ImportError as error:
+            raise unittest.SkipTest(str(error)) from None
+        client = httpx.AsyncClient(verify=False)
+        self.begin(plain(), lambda proxy: Starlette(routes=[Mount("/api", proxy)]), client=client)
+        self.assertEqual((self.ask("/api/a%2Fb?c").content, self.last.line), (b"hello", b"GET /api/a%2Fb?c HTTP/1.1"))
+        self.assertEqual((self.ask("/b").status, len(self.origin.asked)), (404, 1))
+
+    def test_reasons(self) -> None:
+        self.begin(plain(b"hello", b"Connection: Content-Length"))
+        with self.assertLogs("typed_headers.proxy", "INFO") as log:
+            self.ask()
+            self.ask("/", "Connection: Host")
+            self.ask("/", "Via: 1.1 gw.example")
+            self.ask("b:1", method="CONNECT")
+        self.assertEqual([it.split(":", 2)[2] for it in log.output], [
+            "answered by 502: PROTECTED_OPTION", "answered by 400: PROTECTED_OPTION", "answered by 508: LOOP",
+            "answered by 501: the target isn't passed on",
+        ])  # fmt: skip
 
 
 class BehindCached(ProxyTest):
@@ -755,7 +876,7 @@ class Applications(unittest.TestCase):
 
     def proxy(self, respond: Optional[Callable[[Any], Any]] = None, **options: Any) -> Any:
         transport = httpx.MockTransport(respond or (lambda request: httpx.Response(200, content=request.url.raw_path)))
-        return Proxy("https://b.example:8443/", Gateway("gw"), transport=transport, **options)
+        return Proxy("https://b.example:8443/", Gateway("gw"), client=transport, **options)
 
     def test_scopes(self) -> None:
         start, body, end = self.ask(self.proxy(), {"type": "http", "path": "/ä b", "query_string": b"c=%41"})

@@ -3,7 +3,7 @@
 import time
 from dataclasses import dataclass
 from enum import IntEnum
-from typing import ClassVar, Iterable, Optional, Tuple, Union
+from typing import TYPE_CHECKING, Any, ClassVar, Iterable, Optional, Tuple, Union
 
 from . import _library
 from ._checks import check_members
@@ -11,18 +11,36 @@ from ._library import Text, Time, made
 from .errors import HeaderError
 from .headers import Headers, HeadersLike, section_of
 
+if TYPE_CHECKING:
+    from .proxy import Client, ClientRequest, ClientResponse, Proxy, Unanswered
+
 __all__ = [
     "Action",
+    "Client",
+    "ClientRequest",
+    "ClientResponse",
     "Framing",
     "FramingKind",
     "FramingOutcome",
     "Gateway",
     "Hop",
+    "Proxy",
     "Rejection",
     "RequestOutcome",
     "ResponseOutcome",
+    "Unanswered",
     "framing",
 ]
+
+
+def __getattr__(name: str) -> Any:
+    """What `typed_headers.proxy` has, which takes more modules than a decision."""
+    if name not in ("Client", "ClientRequest", "ClientResponse", "Proxy", "Unanswered"):
+        raise AttributeError(f"module {__name__!r} has no attribute {name!r}")
+    from . import proxy
+
+    return getattr(proxy, name)
+
 
 Fields = Tuple[Tuple[str, str], ...]
 

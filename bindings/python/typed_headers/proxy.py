@@ -1,11 +1,20 @@
-"""A reverse proxy: an application of ASGI that passes requests to an origin server, by a transport of `httpx`.
+"""A reverse proxy: an application of ASGI that passes requests to an origin server, by any client of HTTP.
 
     app = Cached(Proxy("http://127.0.0.1:8080", Gateway("gw.example")), Cache(shared=True))
 
 >>> import asyncio
->>> def origin(request):
-...     return httpx.Response(200, headers={"Keep-Alive": "timeout=5"}, text=request.headers["via"])
->>> proxy = Proxy("http://127.0.0.1:8080", Gateway("gw.example"), transport=httpx.MockTransport(origin))
+>>> class Client:
+...     async def send(self, request):
+...         return Response(dict(request.fields)[b"via"])
+>>> class Response:
+...     status, version, fields = 200, 11, [(b"Keep-Alive", b"timeout=5")]
+...     def __init__(self, content):
+...         self.content = content
+...     async def pieces(self):
+...         yield self.content
+...     async def aclose(self):
+...         pass
+>>> proxy = Proxy("http://127.0.0.1:8080", Gateway("gw.example"), Client())
 >>> async def receive():
 ...     return {"type": "http.request"}
 >>> async def send(message):
@@ -18,29 +27,85 @@ b''
 """
 
 import asyncio
-import re
+import logging
+import sys
 import time
 from dataclasses import dataclass, replace
 from ipaddress import ip_address
-from typing import Any, AsyncIterator, Callable, Container, Dict, List, Optional, Tuple, Union
-from urllib.parse import quote
+from typing import Any, AsyncIterator, Callable, Container, Iterable, List, Optional, Protocol, Sequence, Tuple, Union
+from urllib.parse import quote, urlsplit
 
-import httpx
-
+from ._library import calls, check, to_bytes
 from .asgi import Receive, Scope, Send
 from .errors import HeaderError
 from .gateway import Action, FramingKind, Gateway, Hop, RequestOutcome, ResponseOutcome
 from .headers import Headers
-from .values import Host, format_date
+from .values import format_date
 
-__all__ = ["Proxy"]
+__all__ = ["Client", "ClientRequest", "ClientResponse", "Proxy", "Unanswered"]
 
+_LOG = logging.getLogger("typed_headers.proxy")
 _VERSIONS = {"1.0": 10, "1.1": 11}
-#: The methods whose request may be sent again (RFC 9110, section 9.2.2).
-_IDEMPOTENT = ("GET", "HEAD", "OPTIONS", "TRACE", "PUT", "DELETE")
-#: How a target in absolute-form begins (RFC 9112, section 3.2.2), and the bytes of a target: visible, no number sign.
-_ABSOLUTE, _TARGET = re.compile(rb"https?://([^/]*)", re.IGNORECASE), re.compile(rb'[!"$-~]+')
+#: The event that a request waits, and so many bytes of its method, its target and its Host.
+_WAITS_FOR_ORIGIN, _MOST_HEAD = 1, 1 << 20
 _CLOSE = (b"connection", b"close")
+FieldLines = Sequence[Tuple[bytes, bytes]]
+
+
+class Unanswered(Exception):
+    """A client got no response: the status that the proxy answers with, and why."""
+
+    def __init__(self, status: int, reason: str) -> None:
+        super().__init__(reason)
+        self.status = status
+
+
+@dataclass(frozen=True)
+class ClientRequest:
+    """A request as an origin server is to get it."""
+
+    #: The origin server, as `"http://127.0.0.1:8080"`.
+    origin: str
+    method: str
+    #: A path, perhaps with a query, or an asterisk.
+    target: bytes
+    #: The field lines. They say how the content is delimited: Content-Length, or Transfer-Encoding: chunked.
+    fields: FieldLines
+    #: The pieces of the content, which come as the proxy's client sends them, or `None` if there is none.
+    content: Optional[AsyncIterator[bytes]]
+    #: How many seconds a connection, and each piece of a message, may take. `None` is any time.
+    timeout: Optional[float]
+
+
+class ClientResponse(Protocol):
+    """A final response whose head came."""
+
+    @property
+    def status(self) -> int: ...
+
+    @property
+    def version(self) -> int:
+        """10 for HTTP/1.0, or 11."""
+
+    @property
+    def fields(self) -> Iterable[Tuple[bytes, bytes]]:
+        """The field lines as they came."""
+
+    def pieces(self) -> AsyncIterator[bytes]:
+        """The content in pieces, not chunked, and decoded in no other way. If it is cut off, this raises."""
+
+    async def aclose(self) -> None:
+        """Ends the response. What wasn't read of it is dropped."""
+
+
+class Client(Protocol):
+    """What a proxy sends by. It sends a request as it is, adds nothing, follows no redirect, and keeps no cookie."""
+
+    async def send(self, request: ClientRequest) -> ClientResponse:
+        """The response to the request. Interim responses are dropped.
+
+        If none comes, it raises: `TimeoutError` for 504, `Unanswered` for its status, and any other error for 502.
+        """
 
 
 class Proxy:
@@ -50,44 +115,47 @@ class Proxy:
     target and the content pass as they came, content in pieces. The origin server gets the client's Host, and the whole
     path, also where the proxy is mounted at a part of it.
 
+    `client` sends the requests, and is the caller's to close: an `httpx.AsyncClient`, a transport of `httpx`, or a
+    `Client`. Of an `AsyncClient` only the connections count: none of its fields, cookies and credentials are sent, and
+    no redirect is followed. Without one, each request has its own connection by `httpx`, so that what an origin server
+    sends after its response reaches no client. A client that reuses connections may take it for the next response. If
+    an idempotent request without content gets no response on a connection of `httpx` that was used before, it is sent
+    once more.
+
     A client may say who sent it the request if its address is in `trusted`, or `trusted` returns true for the address,
     which is empty for a client at a Unix socket. `writes_forwarded`, `writes_x_forwarded` and `tells_host` are those of
     `Hop`.
 
-    `transport` sends the requests, and is the caller's to close. Without one, each request has its own connection, so
-    that what an origin server sends after its response reaches no client. A transport that reuses connections may take
-    it for the next response. If an idempotent request without content gets no response on a reused connection, it is
-    sent once more.
-
     `timeout` limits, in seconds, how long a connection may take to be made or to become free, and each piece of a
     message to be sent or to come. If it ends before a response, the client gets 504, or 503 if no connection became
     free. The client gets 502 if the origin server can't be reached, fails, or sends a response that is rejected. Once a
-    response has begun, an `httpx.TransportError` is raised instead, so that the server ends the client's connection. If
+    response has begun, the error of the client is raised instead, so that the server ends the client's connection. If
     the client goes away, its request to the origin server ends. A client that is slow isn't limited.
 
-    The proxy answers CONNECT and handshakes of WebSockets with 501, the latter if the server lets an application do so.
-    Let the server set neither Date nor Server, and not take the client from X-Forwarded-For.
+    The logger `typed_headers.proxy` is told why the proxy answers by itself: a warning, or at the level of information
+    if the request is at fault. The proxy answers CONNECT and handshakes of WebSockets with 501, the latter if the
+    server lets an application do so. Trailer fields and interim responses are dropped. Let the server set neither Date
+    nor Server, and not take the client from X-Forwarded-For.
     """
 
     def __init__(
         self,
         origin: str,
         gateway: Gateway,
+        client: Any = None,
         *,
-        transport: Optional[httpx.AsyncBaseTransport] = None,
         timeout: Optional[float] = 60.0,
         trusted: Union[Container[str], Callable[[str], bool]] = (),
         writes_forwarded: bool = False,
         writes_x_forwarded: bool = False,
         tells_host: bool = False,
     ) -> None:
-        self.origin, self.gateway = httpx.URL(origin), gateway
-        is_bare = self.origin.raw_path in (b"", b"/") and not self.origin.userinfo and not self.origin.fragment
-        if self.origin.scheme not in ("http", "https") or not self.origin.host or not is_bare:
-            raise ValueError(f"origin: expected a scheme, http or https, a host and perhaps a port, not {origin!r}")
-        self.is_own = transport is None
-        self.transport = _own_transport(self.origin) if transport is None else transport
-        self.timeout = dict.fromkeys(("connect", "read", "write", "pool"), timeout)
+        self.origin, self.authority = _origin(origin)
+        self.gateway, self.is_own = gateway, client is None
+        status, self._rules = calls.gate_rules_new(gateway._parts, (self.authority, False, False, False, False, False))
+        check(status, lambda: ValueError(f"origin: no Host is {self.authority!r}"))
+        self.client: Client = _client(self.origin, client)
+        self.timeout = timeout
         self.trusted = (trusted,) if isinstance(trusted, str) else trusted
         self.hop = Hop(
             writes_forwarded=writes_forwarded,
@@ -107,9 +175,9 @@ class Proxy:
             raise NotImplementedError(f"{scope['type']} isn't passed to an origin server")
 
     async def aclose(self) -> None:
-        """Closes the proxy's own transport, as the end of the server's lifespan does."""
+        """Closes the proxy's own client, as the end of the server's lifespan does."""
         if self.is_own:
-            await self.transport.aclose()
+            await self.client.aclose()  # type: ignore[attr-defined]
 
     async def _live(self, receive: Receive, send: Send) -> None:
         while True:
@@ -123,29 +191,43 @@ class Proxy:
     async def _answer(self, scope: Scope, receive: Receive, send: Send) -> None:
         method, version = scope["method"], _VERSIONS.get(scope.get("http_version", "1.1"))
         if version is None:
-            await _respond(send, 505)
+            await _respond(send, 505, "another version of HTTP")
             return
-        target, authority, is_valid = _target(scope)
+        hosts = [bytes(value) for name, value in scope["headers"] if name.lower() == b"host"]
+        if version == 10 and not hosts:
+            hosts = [self.authority]
         try:
             request = Headers([(name, value) for name, value in scope["headers"]])
-            if authority is not None:
-                Host.parse(authority)
-            elif version == 10 and "host" not in request:
-                authority = self.origin.netloc
-            decided = self.gateway.forward_request(method, request, self._hop(scope), version, authority)
-        except HeaderError:
-            await _respond(send, 400, _CLOSE)
+            status, target, host = self._target(method, _raw_target(scope), hosts)
+            authority = None if [host] == hosts and "host" in request else host
+            decided = self.gateway.forward_request(method, request, self._hop(scope), version, authority or None)
+        except HeaderError as error:
+            await _respond(send, 400, str(error), _CLOSE)
             return
-        status = 200 if decided.action is Action.ANSWER else decided.status
-        if status is None and method == "CONNECT":
-            status = 501
-        if status is None and not is_valid:
-            status = 400
+        reason = "the target isn't passed on" if decided.reason is None else decided.reason.name
+        if decided.action is not Action.FORWARD:
+            status = 200 if decided.action is Action.ANSWER else decided.status
         if status is not None:
             # (after a request that others may delimit in another way, the connection ends: RFC 9112, section 6.1)
-            await _respond(send, status, *([_CLOSE] if status == 400 else []))
+            await _respond(send, status, reason, *([_CLOSE] if status == 400 else []))
             return
         await _Exchange(self, method, target, version, decided, receive, send).run()
+
+    def _target(self, method: str, target: bytes, hosts: List[bytes]) -> Tuple[Optional[int], bytes, bytes]:
+        """The status if no request for the target is passed on; and the target and the Host to send."""
+        lines = b"".join(b"host: " + host + b"\n" for host in hosts)
+        status, gate = calls.gate_new((b"", 0, False, False), _MOST_HEAD)
+        check(status, _wrong)
+        verb = to_bytes(method, "method")
+        # (what isn't one word would be other parts of a head)
+        if len(verb.split()) != 1 or len(target.split()) != 1:
+            return 400, b"", b""
+        check(calls.gate_ask(gate, verb, target, lines), _wrong)
+        status, facts = calls.gate_next(gate, self._rules, int(time.time()))
+        check(status, _wrong)
+        if facts[1] != _WAITS_FOR_ORIGIN:
+            return calls.gate_own(gate)[1], b"", b""
+        return None, calls.gate_target(gate)[1], calls.gate_authority(gate)[1]
 
     def _hop(self, scope: Scope) -> Hop:
         host, port = [*(scope.get("client") or ("", 0))][:2]
@@ -164,7 +246,7 @@ class _Gone(Exception):
     """The client went away before all content of its request came."""
 
 
-class _Content(httpx.AsyncByteStream):
+class _Content:
     """The content of a request, in the pieces that the server gives."""
 
     def __init__(self, receive: Receive, is_empty: bool) -> None:
@@ -200,33 +282,6 @@ class _Content(httpx.AsyncByteStream):
             has_more = message.get("more_body", False)
 
 
-class _Trace:
-    """Notes how a transport of httpcore sends a request."""
-
-    def __init__(self) -> None:
-        self.is_sent = self.is_connected = False
-
-    async def __call__(self, name: str, info: Dict[str, Any]) -> None:
-        self.is_connected |= name.startswith("connection.connect_")
-        self.is_sent |= name.endswith(".send_request_headers.started")
-
-    @property
-    def is_on_used_connection(self) -> bool:
-        return self.is_sent and not self.is_connected
-
-
-class _Url(httpx.URL):
-    """The origin server, and a target as it came, which `httpx.URL` by itself would encode anew."""
-
-    def __init__(self, origin: httpx.URL, target: bytes) -> None:
-        super().__init__(origin)
-        self.target = target
-
-    @property
-    def raw_path(self) -> bytes:
-        return self.target
-
-
 @dataclass
 class _Exchange:
     """A request that is passed to the origin server, and the response that is passed back."""
@@ -255,92 +310,85 @@ class _Exchange:
             task.result()
 
     async def _pass(self, content: _Content) -> None:
+        pieces = None if content.is_empty else content.__aiter__()
+        fields, proxy = _encoded(self.decided.fields), self.proxy
+        request = ClientRequest(proxy.origin, self.method, self.target, fields, pieces, proxy.timeout)
         try:
-            response = await self._sent(content)
+            response = await proxy.client.send(request)
         except _Gone:
             return
-        except httpx.PoolTimeout:
-            await _respond(self.send, 503)
+        except Unanswered as error:
+            await _respond(self.send, error.status, str(error))
             return
-        except httpx.TimeoutException:
-            await _respond(self.send, 504)
+        except (TimeoutError, asyncio.TimeoutError) as error:
+            await _respond(self.send, 504, repr(error))
             return
-        except httpx.TransportError:
-            await _respond(self.send, 502)
+        except Exception as error:
+            await _respond(self.send, 502, repr(error))
             return
         try:
             await self._pass_back(response)
         finally:
             await response.aclose()
 
-    async def _sent(self, content: _Content) -> httpx.Response:
-        """Sends the request, and returns the response whose head came."""
-        can_repeat = content.is_empty and self.method in _IDEMPOTENT
-        while True:
-            trace = _Trace()
-            try:
-                return await self.proxy.transport.handle_async_request(self._request(content, trace))
-            except (httpx.NetworkError, httpx.RemoteProtocolError):
-                if not can_repeat or not trace.is_on_used_connection:
-                    raise
-                can_repeat = False
-
-    def _request(self, content: _Content, trace: _Trace) -> httpx.Request:
-        url = _Url(self.proxy.origin, self.target)
-        fields = _encoded(self.decided.fields)
-        extensions = {"timeout": self.proxy.timeout, "trace": trace}
-        request = httpx.Request(self.method, self.proxy.origin, headers=fields, stream=content, extensions=extensions)
-        # (made of its arguments, a request has its method in upper case, and a normalized target)
-        request.method, request.url = self.method, url
-        return request
-
-    async def _pass_back(self, response: httpx.Response) -> None:
-        decided = self._decided(response)
+    async def _pass_back(self, response: ClientResponse) -> None:
+        decided, reason = self._decided(response)
         if decided is None or decided.sent is None:
-            await _respond(self.send, 502)
+            await _respond(self.send, 502, reason)
             return
         has_content = decided.sent.kind is not FramingKind.NO_CONTENT
         # An ASGI server delimits the content by itself, and may wait for as much as a 304 states.
-        unsent = ("transfer-encoding", *(("content-length",) if response.status_code == 304 else ()))
+        unsent = ("transfer-encoding", *(("content-length",) if response.status == 304 else ()))
         fields = [(name, value) for name, value in decided.fields if name not in unsent]
-        await self.send({"type": "http.response.start", "status": response.status_code, "headers": _encoded(fields)})
-        assert isinstance(response.stream, httpx.AsyncByteStream)
-        async for piece in response.stream:
+        await self.send({"type": "http.response.start", "status": response.status, "headers": _encoded(fields)})
+        async for piece in response.pieces():
             if has_content:
                 await self.send({"type": "http.response.body", "body": bytes(piece), "more_body": True})
         await self.send({"type": "http.response.body", "body": b""})
 
-    def _decided(self, response: httpx.Response) -> Optional[ResponseOutcome]:
-        """What the gateway does with a response: `None` rejects one that no server of ASGI sends."""
-        version = 10 if response.extensions.get("http_version") == b"HTTP/1.0" else 11
-        if response.status_code > 599:
-            return None
+    def _decided(self, response: ClientResponse) -> Tuple[Optional[ResponseOutcome], str]:
+        """What the gateway does with a response, `None` if no server of ASGI sends it, and why it is rejected."""
+        if response.status > 599:
+            return None, f"the status is {response.status}"
         try:
-            fields = Headers(response.headers.raw)
-            return self.proxy.gateway.forward_response(
-                self.method, response.status_code, fields, version, self.version
+            fields = Headers([(name, value) for name, value in response.fields])
+            decided = self.proxy.gateway.forward_response(
+                self.method, response.status, fields, response.version, self.version
             )
-        except HeaderError:
-            return None
+        except HeaderError as error:
+            return None, str(error)
+        return decided, "an interim response" if decided.reason is None else decided.reason.name
 
 
-def _own_transport(origin: httpx.URL) -> httpx.AsyncHTTPTransport:
-    """A transport with a connection for each request. (It reads certificates, which takes time, only if it has to.)"""
-    limits = httpx.Limits(max_connections=None, max_keepalive_connections=0)
-    return httpx.AsyncHTTPTransport(verify=origin.scheme == "https", trust_env=False, limits=limits)
+def _wrong() -> HeaderError:
+    return HeaderError("the request has no form that is passed on")
 
 
-def _target(scope: Scope) -> Tuple[bytes, Optional[bytes], bool]:
-    """The target to send, the authority of one in absolute-form, and whether an origin server may be sent it."""
+def _origin(text: str) -> Tuple[str, bytes]:
+    """An origin server without a slash at its end, and its authority."""
+    parts = urlsplit(text)
+    is_bare = parts.path in ("", "/") and "?" not in text and "#" not in text and "@" not in parts.netloc
+    if parts.scheme not in ("http", "https") or not parts.hostname or not is_bare or parts.port == 0:
+        raise ValueError(f"origin: expected a scheme, http or https, a host and perhaps a port, not {text!r}")
+    return f"{parts.scheme}://{parts.netloc}", parts.netloc.encode("ascii")
+
+
+def _client(origin: str, given: Any) -> Client:
+    """The client that is given, or one of `httpx`, which is imported only then."""
+    httpx = sys.modules.get("httpx")
+    if given is None or httpx and isinstance(given, (httpx.AsyncClient, httpx.AsyncBaseTransport)):
+        from ._sending import HttpxClient, own_client
+
+        return own_client(origin) if given is None else HttpxClient(given)
+    made: Client = given
+    return made
+
+
+def _raw_target(scope: Scope) -> bytes:
+    """The target as it came, as far as ASGI tells that."""
     raw, query = scope.get("raw_path"), bytes(scope.get("query_string") or b"")
-    path, authority = bytes(raw).partition(b"?")[0] if raw else quote(scope.get("path") or "/").encode("ascii"), None
-    absolute = _ABSOLUTE.match(path)
-    if absolute:
-        authority, path = absolute[1], path[absolute.end() :]
-        path = path or (b"*" if scope["method"] == "OPTIONS" and not query else b"/")
-    target = path + (b"?" + query if query else b"")
-    is_valid = path.startswith(b"/") or target == b"*" and scope["method"] == "OPTIONS"
-    return target, authority, is_valid and _TARGET.fullmatch(target) is not None
+    path = bytes(raw).partition(b"?")[0] if raw else quote(scope.get("path") or "/").encode("ascii")
+    return path + (b"?" + query if query else b"")
 
 
 def _address(host: str) -> Optional[str]:
@@ -355,8 +403,9 @@ def _encoded(fields: "Union[List[Tuple[str, str]], Tuple[Tuple[str, str], ...]]"
     return [(name.encode("latin-1"), value.encode("latin-1")) for name, value in fields]
 
 
-async def _respond(send: Send, status: int, *more: Tuple[bytes, bytes]) -> None:
+async def _respond(send: Send, status: int, reason: str, *more: Tuple[bytes, bytes]) -> None:
     """Answers in place of the origin server, without content."""
+    _LOG.log(logging.INFO if status < 500 else logging.WARNING, "answered by %d: %s", status, reason)
     date = format_date(int(time.time())).encode("ascii")
     fields = [(b"date", date), (b"content-length", b"0"), *more]
     await send({"type": "http.response.start", "status": status, "headers": fields})

@@ -1,5 +1,5 @@
 -- What the handles are opened with.
-use Rattle.std.specs.Prelude.{◌≡◌, ◌⊎◌, ℕ, false, List, Result, Ok, Err}
+use Rattle.std.specs.Prelude.{◌≡◌, ◌⊎◌, ℕ, List, Result, Ok, Err}
 use Rattle.http_header.specs.FieldValue.{FieldValue, IsFieldValue, plain_value}
 use Rattle.{http1.specs.declared.conn.Limits.Limits, gateway_hops.specs.declared.fields.Forwarding.Forwarding}
 use Rattle.gateway_hops.specs.declared.{fields.Received.TheVariants.KeptFromTrusted, node.Node.Node}
@@ -30,12 +30,12 @@ forwarding_of given = record {
   writes_x_forwarded = given.writes_x_forwarded;
 }
 
--- the rules of these settings; no CONNECT is passed on
+-- the rules of these settings
 abbrev pub IsRulesOf : GatewayOptions → GateRules → GatewayRules → Type 0
 IsRulesOf gateway given rules =
     IsGatewayOf gateway (Ok rules.gateway) × IsValueOf given.authority.now (Ok rules.authority)
     × (rules.forwarding ≡ forwarding_of given) × (rules.answers_expect ≡ given.answers_expect)
-    × (rules.passes_websocket ≡ given.passes_websocket) × (rules.passes_connect ≡ false)
+    × (rules.passes_websocket ≡ given.passes_websocket) × (rules.passes_connect ≡ given.passes_connect)
 
 -- or why there are none; `Memory` also for the handle
 abbrev pub IsRulesHeld : GatewayOptions → GateRules → Result Held Failure → Type 0

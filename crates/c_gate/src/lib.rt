@@ -6,6 +6,7 @@
 
 mod answering;
 mod calling;
+mod connecting;
 mod forwarding;
 mod moving;
 mod opening;
@@ -13,6 +14,7 @@ mod reading;
 mod routing;
 
 pub use crate::answering::{answer, end, pass, push, respond};
+pub use crate::connecting::{connect_to, connected};
 pub use crate::forwarding::{again, closes_after, forward, set_conditions, take_origin};
 pub use crate::moving::{
     GateFacts, ask_for, finish, next, open_tunnel, receive, sent, set_clock, timed_out,

@@ -29,6 +29,8 @@ pub struct GateRules<'a> {
     pub answers_expect: bool,
     /// Whether an opening handshake of a WebSocket goes on as one.
     pub passes_websocket: bool,
+    /// Whether a CONNECT waits for the caller. Otherwise it is answered by 501.
+    pub passes_connect: bool,
 }
 
 /// The client of a connection.
@@ -74,7 +76,7 @@ fn rules_of(
         },
         answers_expect: rules.answers_expect,
         passes_websocket: rules.passes_websocket,
-        passes_connect: false,
+        passes_connect: rules.passes_connect,
     }))
 }
 

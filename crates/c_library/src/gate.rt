@@ -1,12 +1,13 @@
 //! A gateway's connection, behind a handle.
 ghost use Rattle.std.specs.Prelude.{◌≡◌, None, Ok, length};
-ghost use Rattle.gateway_exchange.specs.Steps.{AsksAgain, Passes, TimesOut};
+ghost use Rattle.gateway_exchange.specs.Steps.{AsksAgain, Connects, Passes, TimesOut};
 ghost use Rattle.c_parts.specs.Endings.{Gives, TellsAndWrites, Writes, done};
 ghost use Rattle.c_decisions.specs.Flags.{flag_of};
 ghost use Rattle.c_handles.specs.Handles.{OnHeld, Opens};
 ghost use Rattle.c_gate.specs.Answers.{AnswersNumber, EndsPieces, PushesPiece, Responds};
 ghost use Rattle.c_gate.specs.{Calls.{Does, OnGate, gate_in, rules_in}, Moves.{Asks, Finishes, OpensTunnel, Receives}};
 ghost use Rattle.c_gate.specs.{Moves.{Sent, SetsClock, TellsNext}, Openings.{IsGateHeld, IsOriginHeld, IsRulesHeld}};
+ghost use Rattle.c_gate.specs.Connecting.{ConnectsTo};
 ghost use Rattle.c_gate.specs.Origins.{Forwards, LastAfterNext, SetsConditions, TakesOver};
 ghost use Rattle.c_gate.specs.Routes.{is_for};
 ghost use Rattle.c_gate.specs.Texts.{AreFields, IsAnswered, IsFront, IsKey, Shows, of_asked, outputs_in, own_answer};
@@ -16,10 +17,10 @@ ghost use Rattle.c_library.specs.CacheStore.{Ends};
 use crate::giving::give;
 use crate::store::ended;
 use c_gate::{
-    GateFacts, GatePeer, GateRules, GateText, again, answer, ask_for, closes_after, end, fields_of,
-    finish, forward, is_for, key_of, next, open_gate, open_origin, open_rules, open_tunnel, own_of,
-    pass, push, receive, respond, response_of, sent, set_clock, set_conditions, take_origin,
-    timed_out, write_output, write_text,
+    GateFacts, GatePeer, GateRules, GateText, again, answer, ask_for, closes_after, connect_to,
+    connected, end, fields_of, finish, forward, is_for, key_of, next, open_gate, open_origin,
+    open_rules, open_tunnel, own_of, pass, push, receive, respond, response_of, sent, set_clock,
+    set_conditions, take_origin, timed_out, write_output, write_text,
 };
 use c_gateway::GatewayOptions;
 use c_handles::{Handle, close};
@@ -288,6 +289,27 @@ pub extern "C" fn typed_headers_gate_is_for(
         answer.old answer.new result }
 {
     give(is_for(alloc, gate, host, path), answer)
+}
+
+/// Gives which of these targets the CONNECT that waits is for, or answers it by 403.
+#[unsafe(no_mangle)]
+pub extern "C" fn typed_headers_gate_connect_to(
+    alloc: Global,
+    gate: &mut Handle,
+    targets: &[u8],
+    number: &mut u64,
+) -> u8
+    ensures { Gives (OnGate (ConnectsTo targets.now) gate.old.held gate.new.held) number.old number.new result }
+{
+    give(connect_to(alloc, gate, targets), number)
+}
+
+/// Answers it by 200.
+#[unsafe(no_mangle)]
+pub extern "C" fn typed_headers_gate_connected(alloc: Global, gate: &mut Handle) -> u8
+    ensures { Ends (OnGate (Does Connects) gate.old.held gate.new.held) result }
+{
+    ended(connected(alloc, gate))
 }
 
 /// Puts other conditions in place of its own.

@@ -380,6 +380,7 @@ pub struct GateOptions {
     pub writes_x_forwarded: bool,
     pub answers_expect: bool,
     pub passes_websocket: bool,
+    pub passes_connect: bool,
 }
 
 /// The client of a gateway's connection.
@@ -1234,6 +1235,13 @@ extern "C" {
         path_length: usize,
         answer: *mut u8,
     ) -> u8;
+    pub fn typed_headers_gate_connect_to(
+        gate: *mut Gate,
+        targets: *const u8,
+        targets_length: usize,
+        number: *mut u64,
+    ) -> u8;
+    pub fn typed_headers_gate_connected(gate: *mut Gate) -> u8;
     pub fn typed_headers_gate_conditions(
         gate: *mut Gate,
         section: *const u8,
