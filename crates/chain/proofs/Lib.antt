@@ -3,9 +3,11 @@ mod ChainLemmas
 mod CheckLemmas
 mod ConnectionLemmas
 mod EventLemmas
+mod HistoryLemmas
 mod InstanceLemmas
 mod NameLemmas
 mod ResponseLemmas
+mod RunLemmas
 mod ServerLemmas
 mod ServingLemmas
 mod SharingLemmas
