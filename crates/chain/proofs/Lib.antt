@@ -6,6 +6,7 @@ mod EventLemmas
 mod HistoryLemmas
 mod InstanceLemmas
 mod NameLemmas
+mod PageLemmas
 mod ResponseLemmas
 mod RunLemmas
 mod ServerLemmas

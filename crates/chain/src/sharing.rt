@@ -17,6 +17,7 @@ ghost use Rattle.interference.specs.Statements.{HasStrongTags, SaysWhatItDepends
 ghost use Rattle.interference.specs.Worlds.{Asked, Clients, Dated, Doing.{Completes, Gives}, Head, Hop, Message.Coming};
 ghost use Rattle.interference.specs.Worlds.{Message.Going, Origin, Pass.At, Place, Reply.Whole as Full};
 ghost use Rattle.interference.specs.Worlds.{Stored, World, is_fresh, matches, may_store};
+ghost use Rattle.chain.specs.{Instances.IsSharing};
 ghost use Rattle.chain.specs.Sharing.{IsContentSince, IsHeld, IsOf, IsServedNext, TakeAnswers, right, sent, storing_of};
 ghost use Rattle.chain.specs.Sharing.{tag_of, updated, varies};
 
@@ -148,3 +149,10 @@ pub fn clients_of_a_store_get_their_own_answers()
     nothing_older_than_a_removal_is_stored();
     clients_get_their_own_answers();
 }
+
+/// Theorem: the premises of `clients_of_a_store_get_their_own_answers` can be met. A shared store
+/// serves a client what came, before an origin server that gives two requests for some target
+/// different contents.
+pub fn a_shared_store_serves_its_clients()
+    ensures { IsSharing }
+{}
