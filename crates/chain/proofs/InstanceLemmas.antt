@@ -8,7 +8,7 @@ use Rattle.headers.specs.{LineMap.{LineMap, lines_at}, Lines.Line, declared.Enco
 use Rattle.rfc_fields.specs.{Directives.directive_in, Scan.{pieces, push}, Values.{is_quoted_text, octets_from}}
 use Rattle.cache_store.specs.{Changes.{IsInserted, IsStoredAs, IsToStore}, Contents.{Contents, size_at}}
 use Rattle.cache_store.specs.{Lookups.IsAnswer as IsLookup, declared.lookup.Lookup.{TheVariants.Serve}}
-use Rattle.cache_policy.specs.{Age.age_at, Fields.capped, Policies.plain, declared.Kind.TheVariants.Private}
+use Rattle.cache_policy.specs.{Age.age_at, Fields.capped, Policies.plain, declared.Kind.TheVariants.Shared}
 use Rattle.cache_rules.specs.{Selection.{IsCandidate, IsVarying}, Stored.{fields_of_stored, made_at, times_of}}
 use Rattle.cache_rules.specs.declared.{storing.Reception.TheVariants.Complete, stored.StoredResponse.StoredResponse}
 use Rattle.gateway_messages.specs.{FieldLines.{fields_of as sent_fields, lines_under}, Forwarding.IsEndToEnd}
@@ -29,7 +29,7 @@ use Rattle.decide_resource.specs.declared.resource.State.TheVariants as state
 
 -- ---- values
 
-abbrev encoded : List ℕ → Line → Encoded
+abbrev pub encoded : List ℕ → Line → Encoded
 encoded name line = record { name = name; lines = vec (plain_value line ∷ []) (omega arith) }
 
 -- names with a field line each
@@ -91,7 +91,7 @@ abbrev stored_lines : Lines
 stored_lines =
     (codes "cache-control", codes "max-age=99999999999") ∷ (codes "date", codes "Thu, 01 Jan 1970 00:00:00 GMT") ∷ []
 
-abbrev stored : StoredResponse
+abbrev pub stored : StoredResponse
 stored = record {
   method = codes "GET";
   request = entries (host_line ∷ via_line ∷ []);
@@ -107,7 +107,7 @@ stored = record {
 abbrev old : ℕ
 old = age_at (times_of stored 1) (fields_of_stored stored)
 
-abbrev age_line : Line
+abbrev pub age_line : Line
 age_line = decimal (capped old)
 
 abbrev served_lines : Lines
@@ -126,7 +126,7 @@ asks fields = record {
 abbrev request : Request
 request = asks (host_line ∷ [])
 
-abbrev next : Request
+abbrev pub next : Request
 next = asks (host_line ∷ via_line ∷ [])
 
 abbrev replies : LineMap → Reply
@@ -253,22 +253,22 @@ plain_request = record {
   without = without_special next.fields refl;
 }
 
-abbrev contents : Contents
+abbrev pub contents : Contents
 contents = (key_of (codes "/") next, stored ∷ []) ∷ []
 
-abbrev caching : Caching
+abbrev pub caching : Caching
 caching = record {
-  policy = plain Private;
+  policy = plain Shared;
   limits = record { variants = 9; responses = 9; bytes = 9999 };
   most = 0;
   clock = record { ticks = λ time. time; set = 0; runs = λ time later past after. omega (arith, after) };
 }
 
-is_to_store : IsToStore (plain Private) stored Complete
+pub is_to_store : IsToStore (plain Shared) stored Complete
 unfolding pieces push directive_in is_quoted_text is_token_byte octets_from
 is_to_store = grind arith
 
-stored_as : IsStoredAs stored stored
+pub stored_as : IsStoredAs stored stored
 stored_as =
     let hop_by_hop : (name : List ℕ) → IsHopByHop gateway (before stored_lines) name → name ≢ codes "date"
     → before stored_lines name ≡ [] = λ name. each
@@ -279,7 +279,7 @@ stored_as =
     ) (λ apart e other. rw (apart.0, apart.1.0) refl) in
     search (hop_by_hop, arith)
 
-inserted : IsInserted caching.limits (key_of (codes "/") next) stored [] contents
+pub inserted : IsInserted caching.limits (key_of (codes "/") next) stored [] contents
 unfolding size_at
 inserted = record {
   others = [];
@@ -313,7 +313,7 @@ only (suc k) other at = absurd (cc at)
 not_less : (n : ℕ) → n ≤ n
 not_less n = omega arith
 
-found : IsLookup (plain Private) 0 (asked next) 1 (stored ∷ []) (Serve 0 (encoded (codes "age") age_line))
+pub found : IsLookup (plain Shared) 0 (asked next) 1 (stored ∷ []) (Serve 0 (encoded (codes "age") age_line))
 unfolding pieces push directive_in is_quoted_text is_token_byte octets_from
 found =
     let candidate : IsCandidate (asked next) stored = record { method = inl (refl, inl refl); fields = All-nil _ } in

@@ -3,9 +3,12 @@ mod ChainLemmas
 mod CheckLemmas
 mod ConnectionLemmas
 mod EventLemmas
+mod HistoryLemmas
 mod InstanceLemmas
 mod NameLemmas
+mod PageLemmas
 mod ResponseLemmas
+mod RunLemmas
 mod ServerLemmas
 mod ServingLemmas
 mod SharingLemmas

@@ -1,11 +1,9 @@
-use Rattle.std.proofs.{Common.{◌++◌, ◌∙◌, ◌∷◌, ◌≡◌, [], ap, refl, subst, sym, true}, lemmas.Option.same_Some}
-use Rattle.{std.{proofs.lemmas.Slice.Eq.bytes_eq-Decides, specs.Prelude.codes}, cache_rules.specs.Selection.IsCandidate}
+use Rattle.std.proofs.{Common.{◌∙◌, ◌≡◌, subst, sym, true}, lemmas.{Option.same_Some, Slice.Eq.bytes_eq-Decides}}
+use Rattle.{std.specs.Prelude.codes, cache_rules.specs.Selection.IsCandidate}
 use Rattle.cache_rules.specs.Stored.{fields_of_stored, request_of_stored}
 use Rattle.cache_rules.specs.declared.stored.StoredResponse.{StoredResponse}
 use Rattle.cache_store.proofs.{HistoryLemmas.HasUnder-responses_at, NumberLemmas.Has-numbered}
-use Rattle.chain.{proofs.SharingLemmas.{matching, nth-end}, specs.Sharing.right}
-use Rattle.interference.specs.{Events.{Event.Begins, begins, happens, message_at, replies}, Worlds.Doing.GivesStored}
-use Rattle.interference.specs.Worlds.{Kind.Right, Pass, Pass.{At, Ended}, matches}
+use Rattle.{chain.proofs.SharingLemmas.{matching, sends-stored}, interference.specs.Worlds.matches}
 use Rattle.chain.proofs.sharing.what_is_served_is_sent.Goals as goal
 
 pub returns : goal.returns
@@ -21,10 +19,4 @@ returns c policy limits calls contents ran shared key most request now lookup an
     found.matches) in
     let suits : matches one.given.answer.head one.request asked.request ≡ true = rw (of.asks, asks) same in
     let read : asked.request.is_get ≡ true = rw asks ((bytes_eq-Decides request.method (codes "GET")).1 get) in
-    let begun : begins Right world cache which (message_at world message)
-    ≡ At (record { cache = cache; which = which; left = passed; asked = asked }) GivesStored
-    = ap (begins Right world cache which) at ∙ rw (has, suits, fresh, read) refl in
-    ap (λ (p : Pass). world.messages
-    ++ replies Right (happens (right origin clients) world (Begins message cache which)) true p ∷ [])
-    (nth-end Ended world.passes _ ∙ begun)
-    ∙ rw has refl
+    sends-stored origin clients world message cache which passed asked one at has read suits fresh
