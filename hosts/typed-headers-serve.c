@@ -64,6 +64,8 @@ struct peer {
     uint64_t requests;
     int unsent;     /* bytes that the system had to send when the wait began */
     struct address address;
+    uint8_t event;    /* what the connection wants, if it is told */
+    bool is_told;     /* and nothing was done since */
     bool is_readable; /* there may be something to receive */
     bool is_last;     /* its response is to be the last, though the client didn't ask for that */
     bool has_begun;   /* something was received since the last response */
@@ -592,8 +594,10 @@ static void take_turn(struct peer *peer) {
     enum step step = ON;
     for (int i = 0; i < TURN_EVENTS; i++) {
         step = ON;
-        if (typed_headers_connection_next(&peer->connection, &event) != TYPED_HEADERS_DONE)
-            event = TYPED_HEADERS_ABORTED;
+        if (!peer->is_told && typed_headers_connection_next(&peer->connection, &peer->event) != TYPED_HEADERS_DONE)
+            peer->event = TYPED_HEADERS_ABORTED;
+        peer->is_told = true;
+        event = peer->event;
         if (own.turn_bytes >= TURN_BYTES && (event == TYPED_HEADERS_REQUEST || event == TYPED_HEADERS_OUTPUT))
             break;
         switch (event) {
@@ -613,7 +617,7 @@ static void take_turn(struct peer *peer) {
         default: step = OVER;
         }
         switch (step) {
-        case ON: continue;
+        case ON: peer->is_told = false; continue;
         case WAIT: break;
         case SLOW: end_slow(&peer->source); return;
         case REJECTED: linger_peer(peer); return;
@@ -622,7 +626,7 @@ static void take_turn(struct peer *peer) {
         break;
     }
     keep_file(peer);
-    /* The events are told as long as they hold: so a peer that need not wait has its turn again. */
+    /* The events of epoll are told as long as they hold: so a peer that need not wait has its turn again. */
     bool has_output = event != TYPED_HEADERS_NEEDS_INPUT, is_in_handshake = peer->tls && tls_is_in_handshake(peer->tls);
     bool wants_output = peer->tls && step == WAIT ? tls_wants_output(peer->tls) : has_output;
     if (!watch(&peer->source, wants_output ? EPOLLOUT : EPOLLIN) ||
