@@ -5,7 +5,7 @@
  *
  * The supervisor owns the listening sockets, the folder, the log and the certificate, and starts and ends the workers.
  * A worker is a process with one epoll and no thread, and owns its peers. A peer is one connection: it owns its socket,
- * its TLS, its handle of the library, and the file that is being sent. */
+ * its TLS, its handle of the library, and the file that it still sends once its turn is over. */
 #define _GNU_SOURCE
 #include "log.h"
 #include "loop.h"
@@ -34,6 +34,9 @@ enum {
     TURN_BYTES = 1024 * 1024, /* so much a peer sends before others have their turn */
     TURN_EVENTS = 64,        /* so many things a peer does before */
     MOST_FOUND = 3,          /* the library names at most so many paths for a request */
+    LOOKS = 8,               /* so many files that were opened may be found again */
+    LOOK_PATH = 256,         /* if their paths are shorter than this */
+    LOOK_BYTES = 4096,       /* with their content, if it is no longer than this */
 };
 
 const char program[] = "typed-headers-serve";
@@ -61,6 +64,8 @@ struct peer {
     uint64_t requests;
     int unsent;     /* bytes that the system had to send when the wait began */
     struct address address;
+    uint8_t event;    /* what the connection wants, if it is told */
+    bool is_told;     /* and nothing was done since */
     bool is_readable; /* there may be something to receive */
     bool is_last;     /* its response is to be the last, though the client didn't ask for that */
     bool has_begun;   /* something was received since the last response */
@@ -68,8 +73,20 @@ struct peer {
     bool has_moved;   /* something was received or sent since it waits */
 };
 
-/* What a peer waits for, and so how long it may. */
-static struct queue idle, receiving, sending;
+/* What a peer waits for, and so how long it may. In the last one looks wait for the end of the round, in which each
+ * source that was ready has its turn. */
+static struct queue idle, receiving, sending, round_end;
+
+/* A file that was opened for one of the requests that were ready, and that the others of the round find again. It owns
+ * the file, until a peer needs that for longer than its turn. */
+struct look {
+    int file; /* -1 if it owns none now */
+    struct timespec changed;
+    off_t length;
+    bool has_content;
+    char path[LOOK_PATH];
+    uint8_t content[LOOK_BYTES];
+};
 
 static struct {
     struct typed_headers_files files;
@@ -77,6 +94,10 @@ static struct {
     struct peer *driven; /* that whose turn it is */
     uint64_t turn;
     size_t turn_bytes;
+    struct source looking; /* waits while there are looks */
+    struct look looks[LOOKS];
+    size_t look_count;
+    bool may_look; /* the request that is answered was ready before the round */
     uint8_t buffer[BUFFER];
 } own;
 
@@ -159,10 +180,37 @@ static void wait_for(struct peer *peer, struct queue *queue) {
     wait_in(&peer->source, queue);
 }
 
+static struct look *look_of(int file) {
+    for (size_t i = 0; i < own.look_count; i++)
+        if (own.looks[i].file == file)
+            return &own.looks[i];
+    return NULL;
+}
+
+/* Closes a file, unless it may be found again. */
+static void leave_file(int file) {
+    if (file >= 0 && !look_of(file))
+        close_descriptor(file);
+}
+
 static void close_file(struct peer *peer) {
-    if (peer->file >= 0)
-        close_descriptor(peer->file);
+    leave_file(peer->file);
     peer->file = -1;
+}
+
+/* Lets the peer own the file that it sends. */
+static void keep_file(const struct peer *peer) {
+    struct look *look = peer->file >= 0 ? look_of(peer->file) : NULL;
+    if (look)
+        look->file = -1;
+}
+
+static void forget_looks(struct source *source) {
+    wait_in(source, NULL);
+    for (size_t i = 0; i < own.look_count; i++)
+        if (own.looks[i].file >= 0)
+            close_descriptor(own.looks[i].file);
+    own.look_count = 0;
 }
 
 static void end_tls(struct peer *peer) {
@@ -184,7 +232,9 @@ static void drive(struct peer *peer);
 static void on_ready(struct source *source, uint32_t events) {
     struct peer *peer = (struct peer *)source;
     peer->is_readable |= (events & ~(uint32_t)EPOLLOUT) != 0;
+    own.may_look = source->queue == &idle && (events & EPOLLIN) != 0;
     drive(peer);
+    own.may_look = false;
 }
 
 /* Owns the socket, also if there is no memory for a peer. */
@@ -193,8 +243,7 @@ static struct peer *new_peer(int socket, const struct address *address) {
     if (peer)
         peer->source = (struct source){.socket = socket, .ready = on_ready};
     if (!peer || (site.tls && !(peer->tls = tls_begin(site.tls, socket))) ||
-        typed_headers_connection_new(&peer->connection, options.most_content, &own.keys) ||
-        !watch(&peer->source, EPOLLIN)) {
+        typed_headers_connection_new(&peer->connection, options.most_content, &own.keys)) {
         complain_seldom("no connection");
         if (peer) {
             end_tls(peer);
@@ -293,11 +342,44 @@ static uint8_t kind_by(int error) {
     }
 }
 
+static bool is_same_time(struct timespec one, struct timespec other) {
+    return one.tv_sec == other.tv_sec && one.tv_nsec == other.tv_nsec;
+}
+
+/* Finds a file again, unless it has changed or lost a name since. Returns its descriptor, or -1. */
+static int find_again(const char *path, struct stat *status) {
+    for (size_t i = 0; own.may_look && i < own.look_count; i++) {
+        struct look *look = &own.looks[i];
+        if (look->file < 0 || strcmp(look->path, path))
+            continue;
+        if (!fstat(look->file, status) && is_same_time(status->st_ctim, look->changed) &&
+            status->st_size == look->length)
+            return look->file;
+        close_descriptor(look->file);
+        look->file = -1;
+    }
+    return -1;
+}
+
+/* Lets others find a file that was opened, if there is room. */
+static void note_look(const char *path, int file, const struct stat *status) {
+    size_t length = strlen(path);
+    if (!own.may_look || own.look_count == LOOKS || length >= LOOK_PATH)
+        return;
+    struct look *look = &own.looks[own.look_count++];
+    look->file = file;
+    look->changed = status->st_ctim;
+    look->length = status->st_size;
+    look->has_content = false;
+    memcpy(look->path, path, length + 1);
+    wait_in(&own.looking, &round_end);
+}
+
 /* Says what there is at a path, and opens it, if it is a file. Returns its descriptor, or -1. */
 static int find(const char *path, struct typed_headers_entry *entry, struct stat *status) {
-    int file = open_below(path);
+    int again = find_again(path, status), file = again >= 0 ? again : open_below(path);
     *entry = (struct typed_headers_entry){0};
-    if (file < 0 || fstat(file, status)) {
+    if (file < 0 || (file != again && fstat(file, status))) {
         entry->kind = kind_by(errno);
         if (file >= 0)
             close_descriptor(file);
@@ -311,6 +393,8 @@ static int find(const char *path, struct typed_headers_entry *entry, struct stat
         entry->inode = status->st_ino;
         entry->changed = (uint64_t)status->st_ctim.tv_sec;
         entry->changed_nanosecond = (uint64_t)status->st_ctim.tv_nsec;
+        if (file != again)
+            note_look(path, file, status);
         return file;
     }
     entry->kind = S_ISDIR(status->st_mode) ? TYPED_HEADERS_ENTRY_FOLDER : TYPED_HEADERS_ENTRY_FORBIDDEN;
@@ -323,7 +407,7 @@ static int find(const char *path, struct typed_headers_entry *entry, struct stat
 static bool has_changed(const struct peer *peer) {
     struct stat status;
     return fstat(peer->file, &status) || status.st_size != peer->length ||
-           status.st_mtim.tv_sec != peer->modified.tv_sec || status.st_mtim.tv_nsec != peer->modified.tv_nsec;
+           !is_same_time(status.st_mtim, peer->modified);
 }
 
 /* ---- Answers ---- */
@@ -376,8 +460,8 @@ static bool plan_file(struct peer *peer) {
             peer->modified = statuses[i].st_mtim;
             peer->length = statuses[i].st_size;
             peer->opened = own.turn;
-        } else if (files[i] >= 0)
-            close_descriptor(files[i]);
+        } else
+            leave_file(files[i]);
     }
     return status == TYPED_HEADERS_DONE;
 }
@@ -388,6 +472,7 @@ static enum step answer(struct peer *peer) {
     close_file(peer);
     if (!plan_health(peer) && !plan_file(peer))
         return OVER;
+    own.may_look = false; /* the next one of this peer may have come since */
     log_request(peer);
     peer->has_begun = false;
     peer->begun = worker.now;
@@ -439,11 +524,26 @@ static enum step receive(struct peer *peer) {
                : OVER;
 }
 
+/* Reads bytes of the file. Returns whether all came. */
+static bool read_range(const struct peer *peer, uint8_t *room, uint64_t start, size_t range) {
+    struct look *look = look_of(peer->file);
+    bool is_whole = look && start == 0 && range <= LOOK_BYTES && (off_t)range == look->length;
+    if (is_whole && look->has_content)
+        memcpy(room, look->content, range);
+    else if (pread(peer->file, room, range, (off_t)start) != (ssize_t)range)
+        return false;
+    else if (is_whole) {
+        memcpy(look->content, room, range);
+        look->has_content = true;
+    }
+    return true;
+}
+
 /* Sends bytes of the library, and with them those of the file that follow, if they are few. Returns how many. */
 static ssize_t send_output(struct peer *peer, size_t length, uint64_t start, uint64_t range) {
     size_t extra = 0;
     if (range > 0 && range <= SMALL && length + range <= BUFFER &&
-        pread(peer->file, own.buffer + length, (size_t)range, (off_t)start) == (ssize_t)range)
+        read_range(peer, own.buffer + length, start, (size_t)range))
         extra = (size_t)range;
     ssize_t count = send_bytes(peer, length + extra, range > extra && range < LARGE ? MSG_MORE : 0);
     if (count <= (ssize_t)length)
@@ -494,8 +594,10 @@ static void take_turn(struct peer *peer) {
     enum step step = ON;
     for (int i = 0; i < TURN_EVENTS; i++) {
         step = ON;
-        if (typed_headers_connection_next(&peer->connection, &event) != TYPED_HEADERS_DONE)
-            event = TYPED_HEADERS_ABORTED;
+        if (!peer->is_told && typed_headers_connection_next(&peer->connection, &peer->event) != TYPED_HEADERS_DONE)
+            peer->event = TYPED_HEADERS_ABORTED;
+        peer->is_told = true;
+        event = peer->event;
         if (own.turn_bytes >= TURN_BYTES && (event == TYPED_HEADERS_REQUEST || event == TYPED_HEADERS_OUTPUT))
             break;
         switch (event) {
@@ -515,7 +617,7 @@ static void take_turn(struct peer *peer) {
         default: step = OVER;
         }
         switch (step) {
-        case ON: continue;
+        case ON: peer->is_told = false; continue;
         case WAIT: break;
         case SLOW: end_slow(&peer->source); return;
         case REJECTED: linger_peer(peer); return;
@@ -523,7 +625,8 @@ static void take_turn(struct peer *peer) {
         }
         break;
     }
-    /* The events are told as long as they hold: so a peer that need not wait has its turn again. */
+    keep_file(peer);
+    /* The events of epoll are told as long as they hold: so a peer that need not wait has its turn again. */
     bool has_output = event != TYPED_HEADERS_NEEDS_INPUT, is_in_handshake = peer->tls && tls_is_in_handshake(peer->tls);
     bool wants_output = peer->tls && step == WAIT ? tls_wants_output(peer->tls) : has_output;
     if (!watch(&peer->source, wants_output ? EPOLLOUT : EPOLLIN) ||
@@ -567,6 +670,7 @@ void begin_worker(void) {
     add_queue(&idle, options.idle_time * 1000, end_slow, true);
     add_queue(&receiving, options.receive_time * 1000, end_slow, false);
     add_queue(&sending, options.send_time * 1000, end_slow, false);
+    add_queue(&round_end, 0, forget_looks, false);
     fill_randomly(&own.keys, sizeof own.keys);
     open_files();
 }
@@ -576,6 +680,7 @@ void end_worker(void) {
     for (size_t i = 0; i < sizeof queues / sizeof *queues; i++)
         while (first_in(queues[i]))
             close_peer((struct peer *)first_in(queues[i]));
+    forget_looks(&own.looking);
     typed_headers_files_free(&own.files);
 }
 
