@@ -83,9 +83,9 @@ fn connect_to_in(gate: &mut HeldGate, targets: &[u8]) -> Result<u64, Failure>
     }
 }
 
-/// The number of the first of these authorities, one a line, that the CONNECT that waits is for. If it is for none, it
-/// is answered by 403, and the answer is `Refused`. `Absent` if none waits. Unless a tunnel follows, the connection ends
-/// after the response, since what follows a CONNECT may be no request.
+/// The number of the first of these authorities, one a line, that the CONNECT that waits is for. If it is for none,
+/// it is answered by 403, and the answer is `Refused`. `Absent` if none waits. Unless a tunnel follows, the
+/// connection ends after the response, since what follows a CONNECT may be no request.
 pub fn connect_to(alloc: Global, handle: &mut Handle, targets: &[u8]) -> Result<u64, Failure>
     ensures { OnGate (ConnectsTo targets.now) handle.old.held handle.new.held result }
 {
