@@ -4,7 +4,6 @@ mod LoopLemmas
 mod NextLemmas
 pub mod NumberLemmas
 mod OneLemmas
-mod OptionLemmas
 mod OutcomeLemmas
 mod PairLemmas
 mod ReceivedLemmas
