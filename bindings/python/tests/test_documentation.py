@@ -13,7 +13,8 @@ import typed_headers
 
 def load_tests(loader: unittest.TestLoader, tests: unittest.TestSuite, pattern: str) -> unittest.TestSuite:
     # (what is imported of Django wants its settings)
-    others = {"httpx": "httpx", "proxy": "httpx", "requests": "requests", "starlette": "starlette", "uvicorn": "uvicorn"}
+    others = {it: it for it in ("httpx", "requests", "starlette", "uvicorn")}
+    others.update(proxy="httpx", _sending="httpx")
     unread = ["__main__", "_native", "django", *(it for it in others if not importlib.util.find_spec(others[it]))]
     names = [it.name for it in pkgutil.iter_modules(typed_headers.__path__) if it.name not in unread]
     for module in (typed_headers, *(importlib.import_module(f"typed_headers.{name}") for name in names)):

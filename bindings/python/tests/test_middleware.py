@@ -258,6 +258,26 @@ class Both(unittest.TestCase):
         for answer in self.answers("GET", {"If-None-Match": '"a"', "If-Modified-Since": DATE}, fields):
             self.assertEqual(answer.status, 200)
 
+    def test_validators_of_parts(self) -> None:
+        """Validators that can't be decoded aren't sent with a part or a 304, and dates in the form of RFC 9110."""
+        later = "Fri, 01 Jan 2100 00:00:00 GMT"
+        part, unchanged = {"Range": "bytes=0-4"}, {"If-Modified-Since": later}
+        for asked, status in ((part, 206), (unchanged, 304)):
+            for date, is_sent in (("Sun Nov  6 08:49:37 1994", DATE), (later, None)):
+                fields = [("Content-Length", "10000"), ("ETag", "a"), ("Last-Modified", date)]
+                for answer in self.answers("GET", asked, fields):
+                    self.assertEqual(answer.status, status)
+                    self.assertNotIn("etag", answer.names)
+                    self.assertEqual(answer.names.count("last-modified"), 1)
+                    sent = answer.fields["last-modified"]
+                    self.assertTrue(sent == is_sent if is_sent else sent != later, sent)
+        for answer in self.answers("GET", part, [("Content-Length", "10000"), ("Last-Modified", "yesterday")]):
+            self.assertEqual((answer.status, answer.names.count("last-modified")), (206, 0))
+        identity = [*FIELDS, ("Content-Encoding", "identity")]
+        for answer in self.answers("GET", {"Range": "bytes=0-4,9000-9010"}, identity):
+            self.assertEqual((answer.status, len(answer.parts())), (206, 2))
+            self.assertNotIn("content-encoding", answer.names)
+
     def test_a_byte_that_no_value_has(self) -> None:
         for name in ("Range", "If-Match"):
             for answer in self.answers("GET", {name: "bytes=0-0\x0b"}):

@@ -1,7 +1,7 @@
 """What the middleware for WSGI and ASGI shares: how a response to a conditional request or to one for ranges is made
 from the one that the application gave.
 
-`evaluate` and `select` decide; here are the fields of each kind of response, and the cutting of content.
+`typed_headers.respond` decides; here its answer is made of the application's response, and content is cut.
 """
 
 import hashlib
@@ -9,9 +9,10 @@ import secrets
 from dataclasses import dataclass, replace
 from typing import Iterable, List, Optional, Sequence, Tuple
 
-from .conditions import CONTENT_DIGESTS, Precondition, Selection, Target, evaluate, select
+from .conditions import Content, Target
+from .conditions import respond as answer_of
 from .errors import HeaderError, InvalidField
-from .headers import Headers, Section
+from .headers import Headers
 from .values import ByteRange, ContentRange, ETag
 
 Fields = List[Tuple[str, str]]
@@ -21,18 +22,8 @@ CONDITIONS = ("if-match", "if-none-match", "if-modified-since", "if-unmodified-s
 #: The fields of a request by which a policy for other origins answers it.
 ORIGINS = ("origin", "access-control-request-method")
 
-#: The fields of a response to GET that are of its content (RFC 9110, section 8).
-_OF_CONTENT = (
-    "accept-ranges",
-    "content-encoding",
-    "content-length",
-    "content-range",
-    "content-type",
-    *CONTENT_DIGESTS,
-)
-#: Those that a response without the representation doesn't have either: the freshness that an application states is
-#: that of its 200, and a cache would keep the 412 or 416 for as long.
-_OF_SUCCESS = (*_OF_CONTENT, "etag", "last-modified", "cache-control", "expires")
+#: What the library says nothing of. An application states it of its 200: a cache would keep a 412 or 416 for as long.
+_FRESHNESS = ("cache-control", "expires")
 REASONS = {206: "Partial Content", 304: "Not Modified", 412: "Precondition Failed", 416: "Range Not Satisfiable"}
 
 
@@ -82,59 +73,45 @@ def tagged(fields: Fields, content: bytes) -> Fields:
 def respond(
     method: str, request: Headers, given: Response, length: Optional[int], is_date_strong: bool = False
 ) -> Response:
-    """The response to a request whose application answers as `given`, with content of so many bytes.
+    """The response to a GET or HEAD whose application answers as `given`, with content of so many bytes.
 
-    The application's response is sent as it is if the method is neither GET nor HEAD, if its status isn't 200, or if
-    the library can't judge the request.
+    The application's response is sent as it is if its status isn't 200, or if the library can't judge the request. So
+    is a 200, but it gets the Accept-Ranges of the library's answer if it has none.
     """
-    if method not in ("GET", "HEAD") or given.status != 200:
+    if given.status != 200:
         return given
     names = {name.lower(): value for name, value in given.fields}
-    has_ranges = length is not None and names.get("accept-ranges", "bytes") == "bytes" and "content-range" not in names
-    selection = Selection(200)
+    media_type, coding = names.get("content-type"), names.get("content-encoding", "identity")
+    # (the application may say that it sends no ranges, or send one already)
+    sends_ranges = names.get("accept-ranges", "bytes") == "bytes" and "content-range" not in names
+    content, boundary = Content(length, media_type, sends_ranges), secrets.token_hex(16)
     try:
         validators = [(name, value) for name, value in given.fields if name.lower() in ("etag", "last-modified")]
         target = _target(Headers(validators), is_date_strong)
-        asked = Section(request)
-        precondition = evaluate(method, asked, target)
-        if precondition is Precondition.PERFORM and has_ranges and length is not None:
-            selection = select(method, asked, target, length)
+        answer = answer_of(method, request, target, content, boundary)
+        if answer is not None and len(answer.ranges) > 1 and coding.lower() != "identity":
+            # Range is ignored: the coding would be that of the parts and their boundaries together.
+            answer = answer_of(method, Headers(_without(request.pairs(), "range")), target, content, boundary)
     except HeaderError:
         return given
-    if precondition is Precondition.NOT_MODIFIED:
-        fields = _without(given.fields, *_OF_CONTENT, *(("last-modified",) if "etag" in names else ()))
-        return Response(304, fields, ())
-    if precondition is Precondition.FAILED:
-        return Response(412, [*_without(given.fields, *_OF_SUCCESS), ("content-length", "0")], ())
-    if not has_ranges or length is None:
+    if answer is None:
         return given
-    accepts = ("accept-ranges", "bytes")
-    is_coded = names.get("content-encoding", "identity").lower() != "identity"
-    if selection.status == 200 or len(selection.ranges) > 1 and is_coded:
-        # (a coding would be that of the parts and their boundaries together)
-        return given if "accept-ranges" in names else replace(given, fields=[*given.fields, accepts])
-    if selection.status == 416:
-        fields = [accepts, ("content-range", str(ContentRange(None, length))), ("content-length", "0")]
-        return Response(416, _without(given.fields, *_OF_SUCCESS) + fields, ())
-    return _partial(request, given, names.get("content-type"), length, selection.ranges)
+    if answer.status == 200:
+        added = [it for it in answer.fields if it[0] == "accept-ranges" and it[0] not in names]
+        return replace(given, fields=[*given.fields, *added]) if added else given
+    fields = answer.apply(given.fields if answer.status < 400 else _without(given.fields, *_FRESHNESS))
+    return with_parts(answer.status, fields, answer.ranges, media_type, length or 0, boundary)
 
 
-def _partial(
-    request: Headers, given: Response, media_type: Optional[str], length: int, ranges: Sequence[ByteRange]
+def with_parts(
+    status: int, fields: Fields, ranges: Sequence[ByteRange], media_type: Optional[str], length: int, boundary: str
 ) -> Response:
-    """A 206 with these ranges (RFC 9110, section 15.3.7)."""
-    fields = _without(given.fields, "accept-ranges", "content-length", "content-range", *CONTENT_DIGESTS)
-    if "if-range" in request:
-        # The client has the other fields already.
-        fields = _without(fields, "last-modified", "content-type", "content-encoding")
-    if len(ranges) == 1:
-        fields += [("content-range", str(ContentRange(ranges[0], length))), ("content-length", str(ranges[0].length))]
-        return Response(206, [*fields, ("accept-ranges", "bytes")], [(b"", ranges[0])])
-    boundary = secrets.token_hex(16)
+    """A response that sends these ranges of content of so many bytes, with the length of several together."""
+    if len(ranges) < 2:
+        return Response(status, fields, [(b"", it) for it in ranges])
     parts, end = multipart(ranges, media_type, length, boundary)
-    fields = _without(fields, "content-type") + [("content-type", f"multipart/byteranges; boundary={boundary}")]
-    size = size_of(parts, end)
-    return Response(206, [*fields, ("content-length", str(size)), ("accept-ranges", "bytes")], parts, end)
+    size = sum(len(head) + part.length for head, part in parts) + len(end)
+    return Response(status, [*fields, ("content-length", str(size))], parts, end)
 
 
 def multipart(
@@ -148,11 +125,6 @@ def multipart(
         head = f"{lead}--{boundary}\r\n{typed}Content-Range: {ContentRange(part, length)}\r\n\r\n"
         parts.append((head.encode("latin-1"), part))
     return parts, f"\r\n--{boundary}--\r\n".encode("latin-1")
-
-
-def size_of(parts: Sequence[Tuple[bytes, ByteRange]], end: bytes) -> int:
-    """How many bytes the parts are, with what is sent around them."""
-    return sum(len(head) + part.length for head, part in parts) + len(end)
 
 
 class Cutter:

@@ -2,7 +2,7 @@
 
 from typing import Optional, Tuple
 
-from ._exchange import CONDITIONS, ORIGINS, Fields, Response, multipart, size_of
+from ._exchange import CONDITIONS, ORIGINS, Fields, Response, with_parts
 from .resource import Answer, Representation, Resource, Sends
 
 #: A media type, and content of it.
@@ -40,9 +40,5 @@ def explained(answer: Answer, explanation: Explanation) -> Fields:
 
 def ranges(answer: Answer, shown: Representation, boundary: str) -> Response:
     """The parts of a 206, and its length if it has several."""
-    fields = list(answer.fields)
-    if len(answer.ranges) == 1:
-        return Response(206, fields, [(b"", answer.ranges[0])])
     media_type = None if shown.media_type is None else str(shown.media_type)
-    parts, end = multipart(answer.ranges, media_type, shown.length or 0, boundary)
-    return Response(206, [*fields, ("content-length", str(size_of(parts, end)))], parts, end)
+    return with_parts(206, list(answer.fields), answer.ranges, media_type, shown.length or 0, boundary)
