@@ -393,6 +393,8 @@ CALL(pass_came, MAY(REFUSED) | MAY(ABSENT) | MAY(TOO_LARGE) | MAY(NO_MEMORY), (a
 CALL(pass_failed, MAY(ABSENT) | MAY(NO_MEMORY), (at[0].handle.at, at[1].handle.at, at[2].u64, &at[3].any.pass_facts),
      OF_HANDLE(OPENED, cache), OF_HANDLE(OPENED, pass), OF_KIND(NUMBER, U64), OF_SHAPE(OUT_STRUCT, pass_facts))
 CALL(pass_fields, MAY(ABSENT), (at[0].handle.at, ROOM(at[1])), OF_HANDLE(OPENED, pass), PLAIN(ROOM_OF_BYTES))
+CALL(pass_status, MAY(REFUSED) | MAY(ABSENT) | MAY(NO_MEMORY), (at[0].handle.at, TEXT_OF(at[1]), ROOM(at[2])),
+     OF_HANDLE(OPENED, pass), PLAIN(GIVEN_TEXT), PLAIN(ROOM_OF_BYTES))
 CALL(pass_validation, MAY(ABSENT) | MAY(TOO_LARGE) | MAY(NO_MEMORY), (at[0].handle.at, ROOM(at[1])),
      OF_HANDLE(OPENED, pass), PLAIN(ROOM_OF_BYTES))
 CALL(pass_content, MAY(ABSENT), (at[0].handle.at, at[1].size, ROOM(at[2])), OF_HANDLE(OPENED, pass),
@@ -460,6 +462,8 @@ CALL(gate_push, MAY(REFUSED) | MAY(ABSENT) | MAY(NO_MEMORY), (at[0].handle.at, T
 CALL(gate_end, MAY(REFUSED) | MAY(ABSENT) | MAY(NO_MEMORY), (at[0].handle.at), OF_HANDLE(OPENED, gate))
 CALL(gate_response, MAY(ABSENT) | MAY(NO_MEMORY), (at[0].handle.at, &at[1].u16, ROOM(at[2])),
      OF_HANDLE(OPENED, gate), OF_KIND(OUT_NUMBER, U16), PLAIN(ROOM_OF_BYTES))
+CALL(gate_add, MAY(REFUSED) | MAY(ABSENT) | MAY(TOO_LARGE) | MAY(NO_MEMORY), (at[0].handle.at, TEXT_OF(at[1]),
+     &keys), OF_HANDLE(OPENED, gate), PLAIN(GIVEN_TEXT))
 CALL(gate_pass, MAY(ABSENT), (at[0].handle.at), OF_HANDLE(OPENED, gate))
 CALL(gate_piece, MAY(ABSENT), (at[0].handle.at, ROOM(at[1])), OF_HANDLE(OPENED, gate), PLAIN(ROOM_OF_BYTES))
 CALL(gate_take, MAY(REFUSED) | MAY(ABSENT) | MAY(NO_MEMORY), (at[0].handle.at, at[1].handle.at),
@@ -495,12 +499,13 @@ enum { MOST_SLOTS = 9 };
     METHOD(connection_plan_range), METHOD(connection_respond), METHOD(connection_output), METHOD(connection_range), \
     METHOD(connection_sent), METHOD(connection_time_out), METHOD(connection_rejection), METHOD(connection_planned), \
     METHOD(pass_free), METHOD(pass_begin), METHOD(pass_resume), METHOD(pass_came), METHOD(pass_failed), \
-    METHOD(pass_fields), METHOD(pass_validation), METHOD(pass_content), METHOD(pass_received), METHOD(pass_ended), \
-    METHOD(files_free), METHOD(files_new), METHOD(files_path), METHOD(files_plan), METHOD(gate_rules_free), \
-    METHOD(gate_free), METHOD(gate_origin_free), METHOD(gate_rules_new), METHOD(gate_new), METHOD(gate_origin_new), \
-    METHOD(gate_next), METHOD(gate_receive), METHOD(gate_finish), METHOD(gate_output), METHOD(gate_sent), \
-    METHOD(gate_clock), METHOD(gate_timed_out), METHOD(gate_close_after), METHOD(gate_method), METHOD(gate_target), \
-    METHOD(gate_authority), METHOD(gate_key), METHOD(gate_field), METHOD(gate_fields), METHOD(gate_is_for), \
-    METHOD(gate_conditions), METHOD(gate_forward), METHOD(gate_again), METHOD(gate_answer), METHOD(gate_respond), \
-    METHOD(gate_push), METHOD(gate_end), METHOD(gate_response), METHOD(gate_pass), METHOD(gate_piece), \
-    METHOD(gate_take), METHOD(gate_own), METHOD(gate_tunnel), METHOD(gate_ask)
+    METHOD(pass_fields), METHOD(pass_status), METHOD(pass_validation), METHOD(pass_content), METHOD(pass_received), \
+    METHOD(pass_ended), METHOD(files_free), METHOD(files_new), METHOD(files_path), METHOD(files_plan), \
+    METHOD(gate_rules_free), METHOD(gate_free), METHOD(gate_origin_free), METHOD(gate_rules_new), METHOD(gate_new), \
+    METHOD(gate_origin_new), METHOD(gate_next), METHOD(gate_receive), METHOD(gate_finish), METHOD(gate_output), \
+    METHOD(gate_sent), METHOD(gate_clock), METHOD(gate_timed_out), METHOD(gate_close_after), METHOD(gate_method), \
+    METHOD(gate_target), METHOD(gate_authority), METHOD(gate_key), METHOD(gate_field), METHOD(gate_fields), \
+    METHOD(gate_is_for), METHOD(gate_conditions), METHOD(gate_forward), METHOD(gate_again), METHOD(gate_answer), \
+    METHOD(gate_respond), METHOD(gate_push), METHOD(gate_end), METHOD(gate_response), METHOD(gate_add), \
+    METHOD(gate_pass), METHOD(gate_piece), METHOD(gate_take), METHOD(gate_own), METHOD(gate_tunnel), \
+    METHOD(gate_ask)

@@ -4,6 +4,7 @@ use Rattle.{std.specs.declared.alloc.AllocError.AllocError, cache_store.specs.Hi
 use Rattle.cache_pass.specs.{Effects.{Does, kept_of, settings_of}, Passes.{IsSameRequest, key_of}, Queue.Enters}
 use Rattle.cache_pass.specs.{Steps.HasBegun, declared.{cache.Cache.Cache, pass.Pass.Pass, replying.First.First}}
 use Rattle.{c_parts.specs.declared.status.Failure.TheVariants.Memory, c_pass.specs.{Steps.Begins, Waiting.IsAhead}}
+use Rattle.c_pass.specs.{Status.IsStanding, declared.status.Standing.Standing}
 use Rattle.c_pass.proofs.stepping.begin.Goals as goal
 
 pub returns-in-Some : goal.returns-in-Some
@@ -28,7 +29,10 @@ returns-in-Some c = record {
       silent = c.stepped_at-stepped.ensures.silent;
       content = c.stepped_at-stepped.ensures.content;
       queue = refl;
-      beside = record { keys = refl; most = refl };
+      standing = subst (λ (found : Standing). IsStanding c.args.shared.now.guess c.args.now c.begin.new.cache
+          c.begin.new.self c.in_ok-first.first None found) (sym c.stepped_at-stepped.ensures.standing)
+          c.standing-found.ensures;
+      beside = record { keys = refl; most = refl; guess = refl };
     },
     c.waiting.ensures,
   );
@@ -58,7 +62,8 @@ returns c =
           tells = search rules;
           content = search rules;
           place = search rules;
-          beside = record { keys = search rules; most = search rules };
+          standing = search rules;
+          beside = record { keys = search rules; most = search rules; guess = search rules };
         },
       );
     }
@@ -92,7 +97,7 @@ returns-in_err-facts c =
                     (ap key_of made ∙ ap string_bytes begun.same.key ∙ key) unplaced.1,
               )
             ];
-            beside = record { keys = search rules; most = search rules };
+            beside = record { keys = search rules; most = search rules; guess = search rules };
           }
           ),
     ))
