@@ -313,7 +313,8 @@ fn push_byte(text: &mut Vec<u8>, byte: u8) -> Result<(), AllocError>
     if byte == b'"' || byte == b'\\' {
         text.push(b'\\')?;
     }
-    text.push(byte)
+    text.push(byte)?;
+    Ok(())
 }
 
 fn push_escaped(text: &mut Vec<u8>, name: &[u8]) -> Result<(), AllocError>
@@ -331,7 +332,8 @@ fn push_string(text: &mut Vec<u8>, name: &[u8]) -> Result<(), AllocError>
 {
     text.push(b'"')?;
     push_escaped(text, name)?;
-    text.push(b'"')
+    text.push(b'"')?;
+    Ok(())
 }
 
 /// The field line of Cache-Status that says what the pass comes to, by a cache of this name. Rejected if the name isn't

@@ -4,7 +4,7 @@ use Rattle.{std.specs.declared.alloc.AllocError.AllocError, cache_store.specs.Hi
 use Rattle.cache_pass.specs.{Effects.{Does, kept_of, settings_of}, Passes.{IsSameRequest, key_of}, Queue.Enters}
 use Rattle.cache_pass.specs.{Steps.HasBegun, declared.{cache.Cache.Cache, pass.Pass.Pass, replying.First.First}}
 use Rattle.{c_parts.specs.declared.status.Failure.TheVariants.Memory, c_pass.specs.{Steps.Begins, Waiting.IsAhead}}
-use Rattle.c_pass.specs.{Status.IsStanding, declared.status.Standing.Standing}
+use Rattle.c_pass.proofs.StatusLemmas.{standing_of}
 use Rattle.c_pass.proofs.stepping.begin.Goals as goal
 
 pub returns-in-Some : goal.returns-in-Some
@@ -29,8 +29,7 @@ returns-in-Some c = record {
       silent = c.stepped_at-stepped.ensures.silent;
       content = c.stepped_at-stepped.ensures.content;
       queue = refl;
-      standing = subst (λ (found : Standing). IsStanding c.args.shared.now.guess c.args.now c.begin.new.cache
-          c.begin.new.self c.in_ok-first.first None found) (sym c.stepped_at-stepped.ensures.standing)
+      standing = standing_of _ _ _ _ _ _ _ _ _ _ refl refl (sym c.stepped_at-stepped.ensures.standing)
           c.standing-found.ensures;
       beside = record { keys = refl; most = refl; guess = refl };
     },
@@ -62,7 +61,9 @@ returns c =
           tells = search rules;
           content = search rules;
           place = search rules;
-          standing = search rules;
+          standing = standing_of _ _ _ _ _ _ _ _ _ _ (sym c.in_ok-facts.ensures.cache) (sym made)
+              (sym (c.in_ok-facts.ensures.standing ∙ c.stepped_at-stepped-2.ensures.standing))
+              c.standing-found.ensures;
           beside = record { keys = search rules; most = search rules; guess = search rules };
         },
       );
