@@ -8,6 +8,7 @@ use Rattle.cache_rules.specs.{Selection.IsChosen, Selection.IsChoice, declared.s
 use Rattle.{cache_store.specs.Lookups.{IsFreshFor, freshness_of}, cache_pass.specs.Effects.{settings_of, stored_at}}
 use Rattle.cache_pass.specs.{Passes.{key_of, request_of_pass}, declared.{cache.Cache.Cache, pass.Pass.Pass}}
 use Rattle.cache_pass.specs.declared.{pass.Phase.{Phase, TheVariants.Passing}, replying.First.First}
+use Rattle.decide_preconditions.specs.Preconditions.{IsGetOrHead}
 use Rattle.c_parts.specs.declared.status.Failure.{Failure, TheVariants.{Memory, Refused}}
 use Rattle.c_pass.specs.declared.{held.Stepped.Stepped, status.{Course.Course, ForwardReason.ForwardReason}}
 use Rattle.c_pass.specs.declared.status.Standing.{Standing}
@@ -25,10 +26,6 @@ module _ (policy : Policy) (guess : ℕ) (request : Request) (now : ℕ) (stored
   IsSelection (Some by) = (place : ℕ) × (chosen : IsChosen request stored place) × (lifetime : ℕ)
       × IsFreshFor policy guess chosen.response lifetime × (by ≡ freshness_of lifetime chosen.response now)
 
--- what is stored answers these methods alone
-abbrev pub is_read : List ℕ → Bool
-is_read method = bytes_eq method (codes "GET") || bytes_eq method (codes "HEAD")
-
 -- a response to GET is stored
 abbrev pub has_get : List StoredResponse → Bool
 has_get stored = list_any (λ it. bytes_eq it.method (codes "GET")) stored
@@ -39,18 +36,18 @@ abbrev pub has_for : List ℕ → List StoredResponse → Bool
 has_for method stored = bytes_eq method (codes "HEAD") || has_get stored
 
 -- Why a request with this method goes forward, by what is stored under its target, and by what is selected of that
--- (section 2.2).
+-- (section 2.2). What is stored answers GET and HEAD alone.
 abbrev pub IsReason : List ℕ → List StoredResponse → Option Freshness → ForwardReason → Type 0
-IsReason method stored selected Because.Method = is_read method ≡ false
-IsReason method stored selected Because.Target = (is_read method ≡ true) × (selected ≡ None) × (stored ≡ [])
+IsReason method stored selected Because.Method = ¬ (IsGetOrHead method)
+IsReason method stored selected Because.Target = IsGetOrHead method × (selected ≡ None) × (stored ≡ [])
 IsReason method stored selected Because.Vary =
-    (is_read method ≡ true) × (selected ≡ None) × (stored ≢ []) × (has_for method stored ≡ true)
+    IsGetOrHead method × (selected ≡ None) × (stored ≢ []) × (has_for method stored ≡ true)
 IsReason method stored selected Because.Miss =
-    (is_read method ≡ true) × (selected ≡ None) × (stored ≢ []) × (has_for method stored ≡ false)
+    IsGetOrHead method × (selected ≡ None) × (stored ≢ []) × (has_for method stored ≡ false)
 IsReason method stored selected Because.Request =
-    (is_read method ≡ true) × (by : Freshness) × (selected ≡ Some by) × IsFresh by
+    IsGetOrHead method × (by : Freshness) × (selected ≡ Some by) × IsFresh by
 IsReason method stored selected Because.Stale =
-    (is_read method ≡ true) × (by : Freshness) × (selected ≡ Some by) × ¬ (IsFresh by)
+    IsGetOrHead method × (by : Freshness) × (selected ≡ Some by) × ¬ (IsFresh by)
 
 -- a stored response answers
 abbrev pub is_reply : First → Bool

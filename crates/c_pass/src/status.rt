@@ -3,7 +3,7 @@ ghost use Rattle.std.specs.Prelude.{◌≡◌, ◌++◌, OnOk, None, decimal, fl
 ghost use Rattle.{std.specs.List.list_all, cache_policy.specs.Policies.policy_of, cache_policy.specs.Requests.request_of};
 ghost use Rattle.cache_store.specs.Lookups.{IsFreshFor};
 ghost use Rattle.c_pass.specs.Status.{IsReason, IsSelection, IsStanding, IsStatusLine, came_text, collapsed_text};
-ghost use Rattle.c_pass.specs.Status.{course_of, course_text, escaped, fresh_text, has_get, is_read, is_reply};
+ghost use Rattle.c_pass.specs.Status.{course_of, course_text, escaped, fresh_text, has_get, is_reply};
 ghost use Rattle.c_pass.specs.Status.{is_shown, parameters, quoted, reason_name, seconds_text, stored_text, ttl_text};
 
 use crate::held::{Shared, Stepped};
@@ -11,6 +11,7 @@ use c_parts::Failure;
 use cache_pass::{First, Pass, Phase};
 use cache_policy::{Freshness, Policy, RequestHead, current_age};
 use cache_rules::{StoredResponse, select};
+use decide_preconditions::is_get_or_head;
 use headers::HeaderValue;
 use http::Method;
 use std::alloc::{AllocError, Global};
@@ -102,17 +103,11 @@ fn has_get(stored: &[StoredResponse]) -> bool
     stored.iter().any(|it| it.method == Method::GET)
 }
 
-fn is_read(method: &Method) -> bool
-    ensures { result ≡ is_read method.now }
-{
-    *method == Method::GET || *method == Method::HEAD
-}
-
 // Why a request is forwarded, if it is.
 fn reason(method: &Method, stored: &[StoredResponse], selected: Option<Freshness>) -> ForwardReason
     ensures { IsReason method.now stored.now selected result }
 {
-    if !is_read(method) {
+    if !is_get_or_head(method) {
         return ForwardReason::Method;
     }
     match selected {
