@@ -167,7 +167,7 @@ fn collapsed_by(answers: bool, earlier: Option<Course>) -> Option<bool>
 
 /// What a pass comes to by its first step. If it waited for another, `earlier` is what was to become of it when it
 /// began.
-pub(crate) fn standing(
+pub(crate) fn first_standing(
     shared: &Shared,
     pass: &Pass,
     first: &First,

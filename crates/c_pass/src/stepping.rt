@@ -11,7 +11,7 @@ ghost use Rattle.c_pass.specs.declared.held.Place.TheVariants.{Apart};
 use crate::held::{Place, Shared, Stepped};
 use crate::outcome::{PassOutcome, failed_outcome, first_outcome, next_outcome};
 use crate::reading::{CacheRequest, read_target};
-use crate::status::{Standing, standing};
+use crate::status::{Standing, first_standing};
 use crate::telling::{PassFacts, tell, waiting};
 use crate::waiting::{ahead, enter, settle};
 use bytes::Bytes;
@@ -136,7 +136,7 @@ pub fn begin(
         unreachable!()
     };
     let first = begun?;
-    let found = standing(shared, &pass, &first, now, None);
+    let found = first_standing(shared, &pass, &first, now, None);
     match ahead(&shared.queue, &pass, now) {
         Some(number) => {
             let stepped = stepped_at(alloc, pass.anew(), Place::Waiting(number), found);
@@ -167,7 +167,7 @@ pub fn resume(
     match stepped.pass.begin(&mut shared.cache, alloc, now) {
         Ok(Ok(first)) => {
             let earlier = stepped.standing.course;
-            stepped.standing = standing(shared, &stepped.pass, &first, now, Some(earlier));
+            stepped.standing = first_standing(shared, &stepped.pass, &first, now, Some(earlier));
             tell_first(alloc, shared, stepped, first, now)
         }
         Ok(Err(AllocError)) => {

@@ -1,6 +1,7 @@
 use Rattle.std.proofs.Common.{◌≡◌, ◌++◌, map}
 use Rattle.{c_pass.specs.Sending.FieldLine, gateway_messages.specs.FieldLines.fields_of}
-use Rattle.c_gate.{specs.Answers.header_lines, proofs.answering.added_of.Given as goal}
+use Rattle.c_gate.specs.Answers.{header_lines}
+use Rattle.c_gate.proofs.answering.added_of.Given as goal
 
 abbrev pub invariant-loop-name : goal.invariant-loop-name
 invariant-loop-name l =

@@ -30,7 +30,7 @@ returns-in-Some c = record {
       content = c.stepped_at-stepped.ensures.content;
       queue = refl;
       standing = standing_of _ _ _ _ _ _ _ _ _ _ refl refl (sym c.stepped_at-stepped.ensures.standing)
-          c.standing-found.ensures;
+          c.first_standing-found.ensures;
       beside = record { keys = refl; most = refl; guess = refl };
     },
     c.waiting.ensures,
@@ -63,7 +63,7 @@ returns c =
           place = search rules;
           standing = standing_of _ _ _ _ _ _ _ _ _ _ (sym c.in_ok-facts.ensures.cache) (sym made)
               (sym (c.in_ok-facts.ensures.standing ∙ c.stepped_at-stepped-2.ensures.standing))
-              c.standing-found.ensures;
+              c.first_standing-found.ensures;
           beside = record { keys = search rules; most = search rules; guess = search rules };
         },
       );

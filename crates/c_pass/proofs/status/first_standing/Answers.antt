@@ -2,7 +2,8 @@ use Rattle.std.proofs.Common.{rules, ◌≡◌, ◌∙◌, List, ap, refl, subst
 use Rattle.{cache_policy.specs.Requests.Request, cache_store.specs.Kept.policy_of_store}
 use Rattle.{cache_rules.specs.declared.stored.StoredResponse.StoredResponse, c_pass.specs.Status.IsReason}
 use Rattle.cache_pass.specs.{Effects.{settings_of, stored_at}, Passes.{key_of, request_of_pass}}
-use Rattle.c_pass.proofs.{StatusLemmas.selection_of, status.standing.Goals as goal}
+use Rattle.c_pass.proofs.StatusLemmas.{selection_of}
+use Rattle.c_pass.proofs.status.first_standing.Goals as goal
 
 pub returns : goal.returns
 returns c =
