@@ -1,5 +1,5 @@
 //! What a pass comes to, as Cache-Status has it (RFC 9211).
-ghost use Rattle.std.specs.Prelude.{◌≡◌, ◌++◌, OnOk, None, decimal, flat_map, if◌then◌else◌, option_map};
+ghost use Rattle.std.specs.Prelude.{◌≡◌, ◌++◌, OnOk, Some, None, decimal, flat_map, if◌then◌else◌, option_map};
 ghost use Rattle.{std.specs.List.list_all, cache_policy.specs.Policies.policy_of, cache_policy.specs.Requests.request_of};
 ghost use Rattle.cache_store.specs.Lookups.{IsFreshFor};
 ghost use Rattle.c_pass.specs.Status.{IsReason, IsSelection, IsStanding, IsStatusLine, came_text, collapsed_text};
@@ -223,14 +223,20 @@ fn push_number(alloc: Global, text: &mut Vec<u8>, number: u64) -> Result<(), All
     text.extend_from_slice(digits.as_bytes())
 }
 
+fn push_status(alloc: Global, text: &mut Vec<u8>, status: u16) -> Result<(), AllocError>
+    ensures { OnOk result (text.new.items ≡ text.old.items ++ came_text (Some status)) }
+{
+    text.extend_from_slice(b"; fwd-status=")?;
+    push_number(alloc, text, status as u64)
+}
+
 fn push_came(alloc: Global, text: &mut Vec<u8>, came: Option<u16>) -> Result<(), AllocError>
     ensures { OnOk result (text.new.items ≡ text.old.items ++ came_text came) }
 {
-    let Some(status) = came else {
-        return Ok(());
-    };
-    text.extend_from_slice(b"; fwd-status=")?;
-    push_number(alloc, text, status as u64)
+    match came {
+        Some(status) => push_status(alloc, text, status),
+        None => Ok(()),
+    }
 }
 
 fn push_stored(text: &mut Vec<u8>, phase: &Phase) -> Result<(), AllocError>

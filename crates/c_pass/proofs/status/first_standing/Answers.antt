@@ -1,5 +1,5 @@
-use Rattle.std.proofs.Common.{rules, ◌≡◌, ◌∙◌, List, ap, refl, subst}
-use Rattle.{cache_policy.specs.Requests.Request, cache_store.specs.Kept.policy_of_store}
+use Rattle.std.proofs.Common.{rules, ◌≡◌, List, refl, subst}
+use Rattle.cache_policy.specs.{Policies.policy_of, Requests.Request}
 use Rattle.{cache_rules.specs.declared.stored.StoredResponse.StoredResponse, c_pass.specs.Status.IsReason}
 use Rattle.cache_pass.specs.{Effects.{settings_of, stored_at}, Passes.{key_of, request_of_pass}}
 use Rattle.c_pass.proofs.StatusLemmas.{selection_of}
@@ -14,7 +14,7 @@ returns c =
     c.reason-why.result) stored c.reason-why.ensures in
     record {
       selected = c.selection-selected.result;
-      is_selected = selection_of _ (settings_of c.args.shared.now.cache).policy _ _
+      is_selected = selection_of (policy_of c.policy.result) (settings_of c.args.shared.now.cache).policy _ _
           (request_of_pass c.args.pass.now) _ _ (stored_at (key_of c.args.pass.now) c.args.shared.now.cache) _
           (search rules) c.head-request.ensures stored c.selection-selected.ensures;
       reason = c.reason-why.result;
