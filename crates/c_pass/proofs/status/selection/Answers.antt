@@ -8,7 +8,7 @@ use Rattle.c_pass.proofs.status.selection.Goals as goal
 pub returns-in-Some : goal.returns-in-Some
 returns-in-Some c =
     let chosen : IsChosen (request_of c.args.request.now) c.args.stored.now c.in-Some.place = c.in-Some.ensures in
-    let same : c.index-stored-place.result ≡ chosen.response = cc (sym c.index-stored-place.is ∙ chosen.at) in (
+    let same : c.index-stored-place.result ≡ chosen.response = cc (c.index-stored-place.is, chosen.at) in (
       c.in-Some.place,
       chosen,
       c.lifetime_of.result,
