@@ -9,6 +9,7 @@ mod calling;
 mod forwarding;
 mod moving;
 mod opening;
+pub mod pool;
 mod reading;
 mod routing;
 
