@@ -1,12 +1,10 @@
 -- Facts on the counting places and the pieces that are left.
-use Rattle.std.proofs.Common.{◌≡◌, ◌≢◌, ℕ, zero, suc, ◌+◌, ◌-◌, ◌≤◌, Bool, true, List, [], ◌∷◌, map}
-use Rattle.std.{proofs.Common.{length, drop, refl, inl, inr, sym, ◌∙◌, ap, arith}, specs.List.{filter, slice_range}}
-use Rattle.std.{proofs.lemmas.Bool.{or_parts, cases_lt}, proofs.lemmas.List.length-map}
-use Rattle.headers_syntax.specs.Text.{quote, trim}
-use Rattle.headers_items.specs.Places.{is_counting_place, places, pieces, counting_from, items_from}
-use Rattle.headers_items.{specs.ItemsState.{NoCut, IsNextCut}, specs.ScanState.{ScanState, IsNextMark}}
-use Rattle.headers_items.{specs.declared.scan.Mark.Mark}
-use Rattle.headers_items.{proofs.PlacesLemmas.{counting_place_other, counting_step, stays}}
+use Rattle.headers_items.{proofs.PlacesLemmas.{counting_place_other, counting_step, stays}, specs.ItemsState.IsNextCut}
+use Rattle.headers_items.specs.{ItemsState.NoCut, Places.{counting_from, is_counting_place, items_from, pieces, places}}
+use Rattle.headers_items.specs.{ScanState.{IsNextMark, ScanState}, declared.scan.Mark.Mark}
+use Rattle.{headers_syntax.specs.Text.{quote, trim}, std.proofs.Common.{Bool, List, [], ap, arith, drop, inl, inr}}
+use Rattle.std.proofs.Common.{length, map, refl, suc, sym, true, zero, ℕ, ◌+◌, ◌-◌, ◌∙◌, ◌∷◌, ◌≡◌, ◌≢◌, ◌≤◌}
+use Rattle.std.{proofs.lemmas.{Bool.{cases_lt, or_parts}, List.length-map}, specs.List.{filter, slice_range}}
 
 -- where no place counts, the same counting places are left
 counting_same : (sep : ℕ) (s : List ℕ) (i j : ℕ) → i ≤ j → j ≤ length s → NoCut sep s i j
@@ -16,13 +14,11 @@ counting_same sep s i j le l h =
 
 pub counting_none : (sep : ℕ) (s : List ℕ) (i : ℕ) → NoCut sep s i (length s) → counting_from sep s i ≡ []
 unfolding places
-counting_none sep s i h =
-    elim (cases_lt (length s) i) [
-      | inl past ↦ let z : length s - i ≡ 0 = omega arith in rw z refl
-      | inr l ↦
-          let z : length s - length s ≡ 0 = omega arith in
-          sym (counting_same sep s i (length s) l (omega arith) h) ∙ rw z refl
-    ]
+counting_none sep s i h = elim (cases_lt (length s) i) [
+  | inl past ↦ let z : length s - i ≡ 0 = omega arith in rw z refl
+  | inr l ↦ let z : length s - length s ≡ 0 = omega arith in
+      sym (counting_same sep s i (length s) l (omega arith) h) ∙ rw z refl
+]
 
 pub counting_next : (sep : ℕ) (s : List ℕ) (i q : ℕ) → IsNextCut sep s i q
     → counting_from sep s i ≡ q ∷ counting_from sep s (q + 1)
@@ -81,6 +77,5 @@ length-pieces s i (p ∷ ps) = omega (arith, length-pieces s (p + 1) ps)
 
 -- at most one more than there are bytes
 pub items_from-le : (sep : ℕ) (s : List ℕ) (i : ℕ) → length (items_from sep s i) ≤ length s + 1
-items_from-le sep s i =
-    let few = counting-le (is_counting_place sep s) i (length s - i) in
+items_from-le sep s i = let few = counting-le (is_counting_place sep s) i (length s - i) in
     omega (arith, length-map (pieces s i (counting_from sep s i)) trim, length-pieces s i (counting_from sep s i))

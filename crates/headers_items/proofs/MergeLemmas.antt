@@ -1,23 +1,20 @@
 -- One line more.
-use Rattle.std.proofs.Common.{◌≡◌, ℕ, ◌<◌, Bool, true, false, List, [], ◌∷◌, ◌++◌, map, length, Option, None, Some}
-use Rattle.std.proofs.Common.{Result, Ok, Err, IfOk, refl, sym, ◌∙◌, ap, append_assoc, length-append, IsTrue, subst}
-use Rattle.std.{proofs.Common.arith, specs.Bool.MatchBool, specs.Iterator.{Yields, YieldsThen}}
-use Rattle.std.{specs.Iterator.Adapters.{map_steps, map_source}, specs.declared.iter.Map.Map}
-use denote.Param.Members.{Mut, Called}
-use Rattle.headers_syntax.{specs.Lines.{Line, lines_of}, specs.OfLines.OfLines, specs.HeaderLaws.ReadsBack}
-use Rattle.std.{proofs.lemmas.List.append-nil, proofs.lemmas.Bool.Decides.nat_tests}
-use Rattle.std.proofs.lemmas.List.Elements.{All-append, All-cons}
-use Rattle.headers_items.{specs.CutLaw.{IsMerged, MergesItems, MergesLines}, specs.Separator.IsSeparator}
-use Rattle.headers_items.specs.Merge.{merge, merged}
-use Rattle.http_header.{specs.Token.is_value_byte, specs.FieldValue.{FieldValue, IsFieldValue}}
+use Rattle.std.proofs.Common.{Bool, Err, IfOk, IsTrue, List, None, Ok, Option, Result, Some, [], ap, append_assoc, map}
+use Rattle.std.proofs.Common.{arith, false, length, length-append, refl, subst, sym, true, ℕ, ◌++◌, ◌<◌, ◌∙◌, ◌∷◌, ◌≡◌}
+use Rattle.{headers_items.specs.CutLaw.{IsMerged, MergesItems, MergesLines}, headers_syntax.specs.HeaderLaws.ReadsBack}
+use Rattle.{headers_syntax.specs.Lines.{Line, lines_of}, http_header.specs.FieldValue.{FieldValue, IsFieldValue}}
+use Rattle.std.{proofs.lemmas.List.Elements.{All-append, All-cons}, specs.Iterator.Adapters.{map_source, map_steps}}
+use Rattle.{headers_items.specs.Separator.IsSeparator, std.proofs.lemmas.{Bool.Decides.nat_tests, List.append-nil}}
+use Rattle.{headers_items.specs.Merge.{merge, merged}, std.specs.{Iterator.{Yields, YieldsThen}, declared.iter.Map.Map}}
+use Rattle.{headers_syntax.specs.OfLines.OfLines, http_header.specs.Token.is_value_byte, std.specs.Bool.MatchBool}
+use denote.Param.Members.{Called, Mut}
 
 -- a line after at least one other
 pub merge_push : (sep : ℕ) (x : List ℕ) (xs : List (List ℕ)) (y : List ℕ)
     → merge sep (x ∷ xs ++ y ∷ []) ≡ merge sep (x ∷ xs) ++ sep ∷ 32 ∷ y
 merge_push sep x [] y = refl
-merge_push sep x (z ∷ zs) y =
-    ap (λ r. x ++ (sep ∷ 32 ∷ r)) (merge_push sep z zs y)
-    ∙ sym (append_assoc x (sep ∷ 32 ∷ merge sep (z ∷ zs)) (sep ∷ 32 ∷ y))
+merge_push sep x (z ∷ zs) y = ap (λ r. x ++ (sep ∷ 32 ∷ r)) (merge_push sep z zs y) ∙ sym
+    (append_assoc x (sep ∷ 32 ∷ merge sep (z ∷ zs)) (sep ∷ 32 ∷ y))
 
 -- what a buffer of merged lines holds once a line more has come
 pub merged_more : (sep : ℕ) (y before after x : List ℕ) (xs : List (List ℕ)) → after ≡ before ++ sep ∷ 32 ∷ y
@@ -27,9 +24,7 @@ merged_more sep y before after x xs e h = e ∙ ap (λ r. r ++ sep ∷ 32 ∷ y)
 -- a value stays a value
 pub IsFieldValue-more : (sep : ℕ) (a b c : List ℕ) → IsSeparator sep → IsFieldValue a → IsFieldValue b
     → c ≡ a ++ sep ∷ 32 ∷ b → IsFieldValue c
-IsFieldValue-more sep a b c f h k e =
-    let P : ℕ → Type 0 = λ x. IsTrue (is_value_byte x) in
-    let text = f.is_text in
+IsFieldValue-more sep a b c f h k e = let P : ℕ → Type 0 = λ x. IsTrue (is_value_byte x) in let text = f.is_text in
     let here : IsTrue (is_value_byte sep) = grind (arith, nat_tests) in
     subst IsFieldValue (sym e) (All-append P a (sep ∷ 32 ∷ b) h (All-cons P sep (32 ∷ b) here (All-cons P 32 b refl k)))
 
@@ -78,22 +73,17 @@ module _ {S F : Type 0} (steps : S → Option (List ℕ) → S → Type 0) (g : 
   source_yields s t [] e = ap (λ (m : Map S F). map_source m) e
   source_yields s t (v ∷ given) (j, call, later) = (
     map_source j,
-    subst (λ (x : List ℕ). steps (map_source s) (Some x) (map_source j)) (sym (calls _ _ call.0 v call.2))
-        call.1,
+    subst (λ (x : List ℕ). steps (map_source s) (Some x) (map_source j)) (sym (calls _ _ call.0 v call.2)) call.1,
     source_yields j t given later,
   )
 
   pub MergesLines-mapped : {E : Type 0} (s : Map S F) (i : S) (sep : ℕ) (r : Result (List ℕ) E) → map_source s ≡ i
       → IfOk r (λ c. MergesItems (map_steps steps g) s sep c) → IfOk r (λ c. MergesLines steps i sep c)
   MergesLines-mapped s i sep (Err e) h m = tt
-  MergesLines-mapped s i sep (Ok c) h m =
-      let drained = m.1 in
+  MergesLines-mapped s i sep (Ok c) h m = let drained = m.1 in
       subst (λ (j : S). MergesLines steps j sep c) h (
         lines_of m.0,
-        (
-          map_source drained.0,
-          (map_source drained.1.0, source_yields s drained.1.0 m.0 drained.1.1, drained.1.2.0),
-        ),
+        (map_source drained.0, (map_source drained.1.0, source_yields s drained.1.0 m.0 drained.1.1, drained.1.2.0)),
         m.2,
       )
 
