@@ -5,12 +5,12 @@ use Rattle.headers_items.specs.Places.{counting_from, is_counting_place, is_even
 use Rattle.{headers_items.specs.Separator.IsSeparator, headers_syntax.proofs.TextLemmas.{list_all-both, list_all-parts}}
 use Rattle.headers_syntax.specs.Text.{is_blank, is_quote, is_text, quote, trim}
 use Rattle.{http_header.specs.Token.is_visible_or_blank, std.proofs.Common.{Bool, List, [], ap, append-nil, arith}}
-use Rattle.std.proofs.Common.{cond, drop, eqb, false, get_or, inl, inr, length, map, not, refl, subst, suc, sym, take}
-use Rattle.std.proofs.Common.{true, zero, ℕ, ⊎_elim, ◌&&◌, ◌++◌, ◌+◌, ◌-◌, ◌<◌, ◌∙◌, ◌∷◌, ◌≡◌, ◌≢◌, ◌≤◌}
-use Rattle.std.proofs.lemmas.Bool.{and_from, and_parts, cases_Bool, eqb-false, eqb-true, false≢true, ne_eqb}
-use Rattle.std.proofs.lemmas.{Bool.Decides.nat_tests, List.{drop-drop, drop-take, drop_all, drop_more, map-append}}
-use Rattle.std.proofs.lemmas.List.{take-append-drop, take-take, Sums.{sum_by-append, sum_by-cons}}
-use Rattle.std.specs.List.{count_by, filter, flat_map, list_all, onto_first, prefix_len, slice_range}
+use Rattle.std.proofs.Common.{cond, drop, eqb, false, get_or, inl, inr, length, map, not, refl, suc, sym, take, true}
+use Rattle.std.proofs.Common.{zero, ℕ, ⊎_elim, ◌&&◌, ◌++◌, ◌+◌, ◌-◌, ◌<◌, ◌∙◌, ◌∷◌, ◌≡◌, ◌≢◌, ◌≤◌}
+use Rattle.std.proofs.lemmas.{Bool.{and_from, and_parts, cases_Bool, eqb-false, false≢true, ne_eqb}, Grind.common_steps}
+use Rattle.std.proofs.lemmas.List.{drop-drop, drop-take, drop_all, drop_more, map-append, take-append-drop, take-take}
+use Rattle.std.{proofs.lemmas.List.Sums.{sum_by-append, sum_by-cons}, specs.List.{count_by, filter, flat_map, list_all}}
+use Rattle.std.specs.List.{onto_first, prefix_len, slice_range}
 
 -- the pieces by one pass, where `even` says whether an even number of quotes stands before
 pub cuts : ℕ → Bool → List ℕ → List (List ℕ)
@@ -51,8 +51,9 @@ pub cuts-append : (sep : ℕ) (even : Bool) (a b : List ℕ) → sep ≢ quote �
     → cuts sep even (a ++ sep ∷ b) ≡ cuts sep even a ++ cuts sep true b
 unfolding cuts parity_after
 cuts-append sep even [] b ne p = grind arith
-cuts-append sep even (x ∷ xs) b ne p = let turned = onto-append x (cuts sep (not even) xs) (cuts sep true b) (cuts_some
-    sep (not even) xs) in let kept = onto-append x (cuts sep even xs) (cuts sep true b) (cuts_some sep even xs) in
+cuts-append sep even (x ∷ xs) b ne p =
+    let turned = onto-append x (cuts sep (not even) xs) (cuts sep true b) (grind (arith, common_steps, cuts_some)) in
+    let kept = onto-append x (cuts sep even xs) (cuts sep true b) (cuts_some sep even xs) in
     grind (arith, cuts-append sep (not even) xs b ne, cuts-append sep even xs b ne)
 
 -- a space before the first piece is trimmed off
@@ -89,16 +90,10 @@ pieces_cuts sep s i zero ne e = let n : length s - i ≡ 0 = omega arith in rw (
 pieces_cuts sep s i (suc n) ne e = let l : i < length s = omega arith in
     let later = pieces_cuts sep s (i + 1) n ne (omega arith) in let nothing : i - i ≡ 0 = omega arith in
     rw (counting_step sep s i l, drop_more s i 0 l) (elim (cases_Bool (is_counting_place sep s i)) [
-      | inl here ↦ let byte = (counting_place_parts sep s i here).0 in
-          let no : get_or s i 0 ≢ quote = λ z. ne (sym byte ∙ z) in
-          rw (here, nothing, later, parity_other s i l no, ne_eqb _ _ no) refl
+      | inl here ↦ grind (arith, counting_place_parts sep s i here, parity_other, ne_eqb)
       | inr other ↦
-          let onto = pieces_onto s i (counting_from sep s (i + 1)) l
-          (head_from (is_counting_place sep s) (i + 1) (i + 1) (length s - (i + 1)) (omega arith)) in
-          elim (cases_Bool (is_quote (get_or s i 0))) [
-            | inl q ↦ rw (other, onto, later, q, parity_quote s i l (eqb-true _ _ q)) refl
-            | inr q ↦ rw (other, onto, later, q, parity_other s i l (eqb-false _ _ q)) refl
-          ]
+          let onto = pieces_onto s i (counting_from sep s (i + 1)) l (head_from (is_counting_place sep s) (i + 1)
+          (i + 1) (length s - (i + 1)) (omega arith)) in grind (arith, parity_quote, parity_other, eqb-false)
     ])
 
 -- ---- the law of joined lines
@@ -118,8 +113,7 @@ items_cuts sep s ne t = rw (t, pieces_cuts sep s 0 (length s) ne (omega arith), 
 
 -- the text before a separator, the separator and the text after it
 text_parts : (sep : ℕ) (a b : List ℕ) → is_text (a ++ sep ∷ b) ≡ true → (is_text a ≡ true) × (is_text b ≡ true)
-text_parts sep a b t = let parts = list_all-parts is_visible_or_blank a (sep ∷ b) t in
-    (parts.0, (and_parts (is_visible_or_blank sep) (is_text b) parts.1).1)
+text_parts sep a b t = grind (arith, common_steps, list_all-parts)
 
 text_joined : (sep : ℕ) (a b : List ℕ) → IsSeparator sep → is_text a ≡ true → is_text b ≡ true
     → is_text (a ++ sep ∷ 32 ∷ b) ≡ true
@@ -128,11 +122,7 @@ text_joined sep a b f ta tb = list_all-both is_visible_or_blank a (sep ∷ 32 �
 -- a text cut at a counting place has the items of its parts
 pub items_apart : (sep : ℕ) (a b : List ℕ) → IsSeparator sep → is_text (a ++ sep ∷ b) ≡ true
     → is_even (count_by is_quote a) ≡ true → items sep (a ++ sep ∷ b) ≡ items sep a ++ items sep b
-items_apart sep a b f t p = let ne = f.no_quote in let parts = text_parts sep a b t in
-    let none : 0 + count_by is_quote a ≡ count_by is_quote a = omega arith in
-    let even : parity_after true a ≡ true = rw (parity_count 0 a, none) p in
-    items_cuts sep (a ++ sep ∷ b) ne t ∙
-    rw (cuts-append sep true a b ne even, map-append, ← items_cuts sep a ne parts.0, ← items_cuts sep b ne parts.1)
+items_apart sep a b f t p = grind (arith, common_steps, text_parts, parity_count, items_cuts, cuts-append, map-append)
 
 -- a space at the head of a text is trimmed off
 items_space : (sep : ℕ) (b : List ℕ) → IsSeparator sep → is_text b ≡ true → items sep (32 ∷ b) ≡ items sep b
@@ -143,8 +133,7 @@ items_space sep b f t = let no_space : sep ≢ 32 = λ e. false≢true (sym f.no
 -- two texts, joined after an even number of quotes
 pub items_joined : (sep : ℕ) (a b : List ℕ) → IsSeparator sep → is_text a ≡ true → is_text b ≡ true
     → is_even (count_by is_quote a) ≡ true → items sep (a ++ sep ∷ 32 ∷ b) ≡ items sep a ++ items sep b
-items_joined sep a b f ta tb p =
-    items_apart sep a (32 ∷ b) f (text_joined sep a b f ta tb) p ∙ ap (λ r. items sep a ++ r) (items_space sep b f tb)
+items_joined sep a b f ta tb p = grind (arith, common_steps, items_apart, text_joined, items_space)
 
 is_text_merge : (sep : ℕ) (lines : List (List ℕ)) → IsSeparator sep → list_all is_text lines ≡ true
     → is_text (merge sep lines) ≡ true
@@ -177,28 +166,17 @@ items_recut sep s [] f t h = absurd h
 items_recut sep s (x ∷ []) f t h = rw (← h) (t, refl, append-nil (items sep s))
 items_recut sep s (x ∷ y ∷ ys) f t h = let t' : is_text (x ++ sep ∷ h.0) ≡ true = rw h.1 at t in
     let parts = text_parts sep x h.0 t' in let later = items_recut sep h.0 (y ∷ ys) f parts.1 h.3 in
-    let whole : items sep s ≡ items sep x ++ items sep h.0 = ap (items sep) h.1 ∙ items_apart sep x h.0 f t' h.2 in (
-      text_joined sep x (merge sep (y ∷ ys)) f parts.0 later.0,
-      items_joined sep x (merge sep (y ∷ ys)) f parts.0 later.0 h.2 ∙ cc (whole, later.1),
-      cc (whole, later.2),
-    )
+    grind (arith, common_steps, items_apart, text_joined, merge, items_joined)
 
 -- the front up to p is the front up to i, and the slice between
 take_slice : (s : List ℕ) (i p : ℕ) → i ≤ p → take p s ≡ take i s ++ slice_range s i p
-take_slice s i p l = let e : i + (p - i) ≡ p = omega arith in
-    let rest : drop i (take p s) ≡ slice_range s i p = rw e at (drop-take i (p - i) s) in
-    sym (take-append-drop i (take p s)) ∙ rw (take-take i p s l, rest) refl
+take_slice s i p l =
+    grind (arith, drop i (take p s), take p s, drop-take i (p - i) s, take-append-drop i (take p s), take-take i p s l)
 
 -- between two places with an even number of quotes before, the quotes are even
 even_slice : (s : List ℕ) (i p : ℕ) → i ≤ p → is_even (quotes_before s i) ≡ true → is_even (quotes_before s p) ≡ true
     → is_even (count_by is_quote (slice_range s i p)) ≡ true
-even_slice s i p l h k =
-    even_rest (quotes_before s i) (count_by is_quote (slice_range s i p)) (quotes_before s p)
-    (ap (count_by is_quote) (take_slice s i p l)
-    ∙ sum_by-append (λ b. cond (is_quote b) 1 0) (take i s) (slice_range s i p)) h k
-  where
-    even_rest : (a b c : ℕ) → c ≡ a + b → is_even a ≡ true → is_even c ≡ true → is_even b ≡ true
-    even_rest a b c e h k = grind (arith, nat_tests)
+even_slice s i p l h k = grind (arith, take_slice s i p l, take i s, sum_by-append)
 
 -- what is left from i, cut at p
 drop_split : (s : List ℕ) (i p sep : ℕ) → i ≤ p → p < length s → get_or s p 0 ≡ sep
@@ -214,20 +192,14 @@ unfolding pieces
 IsCutInto-pieces sep s i [] ne h c = refl
 IsCutInto-pieces sep s i (p ∷ []) ne h c = let here = counting_place_parts sep s p c.2 in
     (drop (p + 1) s, drop_split s i p sep c.0 c.1 here.0, even_slice s i p c.0 h here.1, refl)
-IsCutInto-pieces sep s i (p ∷ q ∷ qs) ne h c =
-    let here = counting_place_parts sep s p c.2 in
-    let even : is_even (quotes_before s (p + 1)) ≡ true = parity_other s p c.1 (λ e. ne (sym here.0 ∙ e)) ∙ here.1 in (
-      drop (p + 1) s,
-      drop_split s i p sep c.0 c.1 here.0,
-      even_slice s i p c.0 h here.1,
-      IsCutInto-pieces sep s (p + 1) (q ∷ qs) ne even c.3,
-    )
+IsCutInto-pieces sep s i (p ∷ q ∷ qs) ne h c = let here = counting_place_parts sep s p c.2 in
+    let even : is_even (quotes_before s (p + 1)) ≡ true = parity_other s p c.1 (λ e. ne (sym here.0 ∙ e)) ∙ here.1 in
+    grind (arith, common_steps, drop, drop_split, even_slice, IsCutInto-pieces sep s (p + 1) (q ∷ qs) ne even c.3)
 
 -- a text cut at counting places has the items of its pieces, merged or one after the other
 pub items_of_pieces : (sep : ℕ) (s ps : List ℕ) → IsSeparator sep → is_text s ≡ true → AreCuts sep s 0 ps
     → (items sep (merge sep (pieces s 0 ps)) ≡ items sep s) × (flat_map (items sep) (pieces s 0 ps) ≡ items sep s)
-items_of_pieces sep s ps f t c = let is_cut = IsCutInto-pieces sep s 0 ps f.no_quote (zero_even s) c in
-    let same = items_recut sep s (pieces s 0 ps) f t is_cut in (same.1, same.2)
+items_of_pieces sep s ps f t c = grind (arith, common_steps, IsCutInto-pieces, zero_even, items_recut)
 
 pub items_cut_at : (sep : ℕ) (s : List ℕ) (ps : List ℕ) → IsSeparator sep → is_text s ≡ true → AreCuts sep s 0 ps
     → items sep (merge sep (pieces s 0 ps)) ≡ items sep s
@@ -235,8 +207,4 @@ items_cut_at sep s ps f t c = (items_of_pieces sep s ps f t c).0
 
 pub IsMerged-from : (sep : ℕ) (lines : List (List ℕ)) (value : List ℕ) → IsSeparator sep → value ≡ merge sep lines
     → IsMerged sep lines value
-IsMerged-from sep lines value f e = record {
-  bytes = e;
-  items_kept = subst (HasItemsOf sep lines) (sym e) (HasItemsOf-merge sep lines f);
-  cuts_kept = λ s ps text cuts p. ap (items sep) (e ∙ ap (merge sep) p) ∙ items_cut_at sep s ps f text cuts;
-}
+IsMerged-from sep lines value f e = grind (arith, common_steps, HasItemsOf-merge, merge, items_cut_at)

@@ -1,7 +1,7 @@
 -- The halves of an item, found by a search.
 use Rattle.{headers_items.specs.Pairs.{is_equals, pair_of, pairs}, headers_syntax.specs.Text.trim}
 use Rattle.{memchr.specs.Find.{IsFirstByte, is_byte}, std.proofs.Common.{List, None, Some, [], arith, false, length}}
-use Rattle.std.proofs.{Common.{ltb, refl, true, ℕ, ◌+◌, ◌-◌, ◌∷◌, ◌≡◌, ◌≤◌}, lemmas.Bool.false_from_ne_true}
+use Rattle.std.proofs.{Common.{ltb, refl, ℕ, ◌+◌, ◌-◌, ◌∷◌, ◌≡◌, ◌≤◌}, lemmas.Bool.false_from_ne_true}
 use Rattle.std.proofs.lemmas.{Bool.Decides.nat_tests, List.{take_rest, Sums.position_or_len_is}}
 use Rattle.std.specs.{List.slice_range, Prelude.position}
 
@@ -11,9 +11,7 @@ position_none item h = let e = position_or_len_is is_equals item (length item) 0
     let no : ltb (length item) (length item) ≡ false = grind (arith, nat_tests) in rw (e, no) refl
 
 position_some : (item : List ℕ) (k : ℕ) → IsFirstByte (is_byte 61) item (Some k) → position is_equals item ≡ Some k
-position_some item k h = let l = h.0.high in
-    let e = position_or_len_is is_equals item k 0 (omega arith) (λ j b. false_from_ne_true _ (h.0.before j (omega arith)
-    b)) (λ b. h.1) in let yes : ltb k (length item) ≡ true = grind (arith, nat_tests) in rw (e, yes) refl
+position_some item k h = grind (arith, position_or_len_is)
 
 -- an item with no `=`
 pub pair_of-none : (item bytes : List ℕ) → bytes ≡ item → IsFirstByte (is_byte 61) bytes None → None ≡ pair_of item

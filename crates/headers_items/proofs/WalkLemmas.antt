@@ -2,9 +2,9 @@
 use Rattle.headers_items.proofs.{ItemsLemmas.{items_last, items_next}, PlacesLemmas.hits-le-marks}
 use Rattle.headers_items.specs.ItemsState.{GivesPiece, IsNextCut, ItemsState, NoCut, ScansPiece, items_left, walk_over}
 use Rattle.headers_items.specs.{Places.{hits, items_from, marks}, ScanState.end_search}
-use Rattle.{headers_syntax.specs.Text.{is_text, trim}, std.proofs.Common.{Bool, List, Some, [], ap, arith, drop, false}}
-use Rattle.std.proofs.{Common.{length, refl, sym, true, ℕ, ⊎_elim, ◌+◌, ◌∙◌, ◌∷◌, ◌≡◌, ◌≤◌}, lemmas.List.take_rest}
-use Rattle.std.specs.List.{slice_range}
+use Rattle.{headers_syntax.specs.Text.{is_text, trim}, std.proofs.Common.{Bool, List, Some, [], arith, drop, false}}
+use Rattle.std.proofs.{Common.{length, refl, true, ℕ, ⊎_elim, ◌+◌, ◌∷◌, ◌≡◌, ◌≤◌}, lemmas.Grind.common_steps}
+use Rattle.std.{proofs.lemmas.List.take_rest, specs.List.slice_range}
 use denote.Ref.{Bor}
 
 -- over a value that is no text
@@ -23,17 +23,14 @@ items_left_done s h = rw h refl
 pub walk_more : (s t : ItemsState) (item : List ℕ) (q : ℕ) → s.is_done ≡ false
     → IsNextCut s.separator s.text s.start q → item ≡ trim (slice_range s.text s.start q) → t.is_done ≡ false
     → t.separator ≡ s.separator → t.text ≡ s.text → t.start ≡ q + 1 → items_left s ≡ item ∷ items_left t
-walk_more s t item q opn f e d a b p =
-    items_left_open s opn ∙ items_next s.separator s.text s.start q f ∙ (let r : trim (slice_range s.text s.start q)
-    ∷ items_from s.separator s.text (q + 1) ≡ item ∷ items_left t = rw (items_left_open t d, e, a, b, p) refl in r)
+walk_more s t item q opn f e d a b p = grind (arith, common_steps, items_left_open, items_next)
 
 -- the last piece
 pub walk_last : (s t : ItemsState) (item : List ℕ) → s.is_done ≡ false → s.start ≤ length s.text
     → NoCut s.separator s.text s.start (length s.text) → item ≡ trim (slice_range s.text s.start (length s.text))
     → t.is_done ≡ true → items_left s ≡ item ∷ items_left t
 walk_last s t item opn l f e d =
-    items_left_open s opn ∙ items_last s.separator s.text s.start l f ∙ (let r : trim (drop s.start s.text) ∷ [] ≡ item
-    ∷ items_left t = rw (items_left_done t d, e) (ap (λ x. trim x ∷ []) (sym (take_rest s.text s.start))) in r)
+    grind (arith, common_steps, items_left_open, items_last, drop, items_left_done, take_rest)
 
 -- a cut of equal texts from equal places
 pub IsNextCut-same : (sep sep' : ℕ) (s s' : List ℕ) (i i' q q' : ℕ) → IsNextCut sep s i q → sep' ≡ sep → s' ≡ s
