@@ -130,6 +130,24 @@ answered policy method sent response before answer origin a e name other =
     ∙ skips_vary policy (is_preflight answer.kind) (sent (codes "origin")) (response (codes "vary")) before name other
     ∙ ap (λ (lines : List Line). lines_by policy (is_preflight answer.kind) (granted policy lines) before name) e
 
+-- a listed origin gets its own line, and a request without Origin none
+pub listed_gets_its_own : (policy : Policy) (origins : List Line) (method : List ℕ) (sent response before : LineMap)
+    (answer : CorsAnswer) (origin : Line) → policy.origins ≡ Some origins → Contains origins origin
+    → IsAnswer policy method sent response answer → sent (codes "origin") ≡ origin ∷ []
+    → set_all before (fields_of answer.fields.items) (codes "access-control-allow-origin") ≡ origin ∷ []
+listed_gets_its_own policy origins method sent response before answer origin e h a o =
+    answered policy method sent response before answer origin a o (codes "access-control-allow-origin") refl
+    ∙ rw e (rw (from_listed origin origins h) refl)
+
+pub absent_gets_none : (policy : Policy) (origins : List Line) (method : List ℕ) (sent response before : LineMap)
+    (answer : CorsAnswer) → policy.origins ≡ Some origins → IsAnswer policy method sent response answer
+    → sent (codes "origin") ≡ []
+    → set_all before (fields_of answer.fields.items) (codes "access-control-allow-origin") ≡ []
+absent_gets_none policy origins method sent response before answer e a o =
+    ap (λ (fields : List Field). set_all before fields (codes "access-control-allow-origin")) a.fields
+    ∙ skips_vary policy (is_preflight answer.kind) (sent (codes "origin")) (response (codes "vary")) before
+    (codes "access-control-allow-origin") refl ∙ rw (o, e) refl
+
 -- the browser's check is the policy's
 pub check_is_policy : (rules : CorsRules) (policy : Policy) (method : List ℕ) (sent response before : LineMap)
     (answer : CorsAnswer) (request : Request) → IsLawful rules → IsPolicyOf rules policy

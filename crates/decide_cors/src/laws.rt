@@ -1,6 +1,6 @@
 //! Theorems about the definitions alone. To cite one in a proof, call it.
-ghost use Rattle.std.specs.Prelude.{◌≡◌, ◌≢◌, ◌↔◌, ◌⊎◌, ◌∷◌, [], ◌++◌, ◌+◌, ◌<◌, ◌^◌, ℕ, List, None};
-ghost use Rattle.std.specs.Prelude.{IsTrue, codes, length};
+ghost use Rattle.std.specs.Prelude.{◌≡◌, ◌≢◌, ◌↔◌, ◌⊎◌, ◌∷◌, [], ◌++◌, ◌+◌, ◌<◌, ◌^◌, ℕ, List, Some, None};
+ghost use Rattle.std.specs.Prelude.{Contains, IsTrue, codes, length};
 ghost use Rattle.headers.{specs.LineMap.{LineMap, fields_of, set_all}, specs.Lines.Line};
 ghost use Rattle.decide_cors.{specs.Answer.{AreSame, IsAnswer}, specs.Browser.{CorsCheck, IsExposed, IsOkStatus}};
 ghost use Rattle.decide_cors.{specs.Browser.{IsPreflightFor, IsSentFor, PreflightPasses, Request}, specs.Cache.Serves};
@@ -78,6 +78,20 @@ pub fn vary_stays()
         → (set_all response (fields_of answer.fields.items) (codes "vary") ≡ response (codes "vary"))
         ⊎ (set_all response (fields_of answer.fields.items) (codes "vary")
         ≡ response (codes "vary") ++ codes "origin" ∷ []) }
+{}
+
+/// Theorem: `origin` in Vary is exact where a policy lists an origin (RFC 9110, section 12.5.5): a
+/// response to a request from it has that origin in Access-Control-Allow-Origin, and one to a
+/// request without Origin has no such field, whatever they had before.
+pub fn listed_origin_changes_the_fields()
+    ensures listed { (policy : Policy) (origins : List Line) (method : List ℕ) (sent response before : LineMap)
+        (answer : CorsAnswer) (origin : Line) → policy.origins ≡ Some origins → Contains origins origin
+        → IsAnswer policy method sent response answer → sent (codes "origin") ≡ origin ∷ []
+        → set_all before (fields_of answer.fields.items) (codes "access-control-allow-origin") ≡ origin ∷ [] }
+    ensures absent { (policy : Policy) (origins : List Line) (method : List ℕ) (sent response before : LineMap)
+        (answer : CorsAnswer) → policy.origins ≡ Some origins → IsAnswer policy method sent response answer
+        → sent (codes "origin") ≡ []
+        → set_all before (fields_of answer.fields.items) (codes "access-control-allow-origin") ≡ [] }
 {}
 
 /// Theorem: the fields depend on the method, `Origin` and `Access-Control-Request-Method` alone.

@@ -4,6 +4,7 @@ mod LoopLemmas
 mod NextLemmas
 pub mod NumberLemmas
 mod OneLemmas
+mod OptionLemmas
 mod OutcomeLemmas
 mod PairLemmas
 mod ReceivedLemmas

@@ -1,17 +1,43 @@
 //! The fields of a message that are meant for one connection.
-ghost use Rattle.std.specs.{Prelude.{◌≡◌, bytes_eq, true}, List.list_any};
+ghost use Rattle.std.specs.{Prelude.{◌≡◌, ◌∷◌, [], IsTrue, bytes_eq, true}, List.list_any};
+ghost use Rattle.headers_syntax.specs.AsciiCase.{same_name};
 ghost use Rattle.{headers.specs.Lines.lines_of, rfc_fields.specs.Members.field_members};
 ghost use Rattle.gateway_messages.specs.HopByHop.{is_hop_by_hop, is_known, is_named, names_protected, proxy_fields};
 ghost use Rattle.gateway_messages.specs.HopByHop.{protected_fields};
 
 use headers::{HeaderName, HeaderValue};
 use http_header::GetAll;
-use rfc_fields::contains_token;
+use rfc_fields::{contains_token, has_line, only_value};
 
-// Whether a connection option names the field.
+// Whether the only field line is this word.
+fn is_word(connection: &GetAll<'_, HeaderValue>, word: &[u8]) -> bool
+    ensures { IsTrue result → lines_of connection.now ≡ word.now ∷ [] }
+{
+    match only_value(connection) {
+        Some(value) => value.as_bytes() == word,
+        None => false,
+    }
+}
+
+fn is_same(word: &[u8], name: &str) -> bool
+    ensures { result ≡ same_name word.now name.now }
+{
+    word.eq_ignore_ascii_case(name.as_bytes())
+}
+
+// Whether a connection option names the field. Most messages have none, or one of these words: no list is parsed then.
 fn is_named(connection: &GetAll<'_, HeaderValue>, name: &str) -> bool
     ensures { result ≡ is_named (field_members true (lines_of connection.now)) name.now }
 {
+    if !has_line(connection) {
+        return false;
+    }
+    if is_word(connection, b"keep-alive") {
+        return is_same(b"keep-alive", name);
+    }
+    if is_word(connection, b"close") {
+        return is_same(b"close", name);
+    }
     contains_token(connection, name.as_bytes())
 }
 

@@ -5,7 +5,7 @@ ghost use Rattle.percent_encoding.specs.Percent.{percent_decode};
 ghost use Rattle.server_files.specs.Path.{IsDecoded, IsFolderOf, Names, ends_in_slash, is_first_name, is_name};
 ghost use Rattle.server_files.specs.Path.{is_name_byte, is_plain, names_folder, with_index};
 
-use percent_encoding::percent_decode;
+use percent_encoding::percent_decode_str;
 use std::alloc::{AllocError, Global};
 use std::borrow::CowSlice;
 
@@ -60,29 +60,16 @@ fn names_folder(path: &[u8]) -> bool
     path.is_empty() || ends_in_slash(path)
 }
 
-fn is_rooted(path: &[u8]) -> bool
-    ensures { result ≡ (slice_index path.now 0 == 47) }
-{
-    !path.is_empty() && path[0] == b'/'
-}
-
-fn decoded_bytes(alloc: Global, encoded: &[u8]) -> Result<Vec<u8>, AllocError>
-    ensures { IfOk result (λ bytes. bytes.items ≡ percent_decode encoded.now) }
-{
-    match percent_decode(encoded).into_cow(alloc)? {
-        CowSlice::Borrowed(bytes) => Vec::from_slice(alloc, bytes),
-        CowSlice::Owned(bytes) => Ok(bytes),
-    }
-}
-
-// A text, percent-decoded. `None` if that isn't UTF-8.
-fn decoded(alloc: Global, encoded: &[u8]) -> Result<Option<String>, AllocError>
+// A text, percent-decoded. `None` if that isn't UTF-8. One without escapes is UTF-8 as it is.
+fn decoded(alloc: Global, encoded: &str) -> Result<Option<String>, AllocError>
     ensures { IfOk result (λ text. IsDecoded encoded.now (option_map string_bytes text)) }
 {
-    let bytes = decoded_bytes(alloc, encoded)?;
-    match String::from_utf8(bytes) {
-        Ok(text) => Ok(Some(text)),
-        Err(_) => Ok(None),
+    match percent_decode_str(encoded).into_cow(alloc)? {
+        CowSlice::Borrowed(_) => Ok(Some(String::from_str(alloc, encoded)?)),
+        CowSlice::Owned(bytes) => match String::from_utf8(bytes) {
+            Ok(text) => Ok(Some(text)),
+            Err(_) => Ok(None),
+        },
     }
 }
 
@@ -118,15 +105,6 @@ fn folder_if_named(folder: &str) -> Option<&str>
     }
 }
 
-// What follows the first slash of a path, percent-decoded.
-fn below_root(alloc: Global, path: &str) -> Result<Option<String>, AllocError>
-    requires { slice_index path.now 0 ≡ 47 }
-    ensures { IfOk result (λ text. IsDecoded (drop 1 path.now) (option_map string_bytes text)) }
-{
-    let bytes = path.as_bytes();
-    decoded(alloc, &bytes[1..])
-}
-
 /// The path in a store that the path of a URI names: what follows its first slash,
 /// percent-decoded, with `index.html` appended if it is empty or ends in a slash. `None` if it
 /// doesn't begin with a slash, if it isn't UTF-8, or if that path isn't plain. Fails only if it begins
@@ -135,10 +113,10 @@ pub fn store_path(alloc: Global, path: &str) -> Result<Option<String>, AllocErro
     ensures named { IfOk result (λ named. Names path.now (option_map string_bytes named)) }
     ensures memory { OnErr result (slice_index path.now 0 ≡ 47) }
 {
-    if !is_rooted(path.as_bytes()) {
+    let Some(encoded) = path.strip_prefix('/') else {
         return Ok(None);
-    }
-    let Some(text) = below_root(alloc, path)? else {
+    };
+    let Some(text) = decoded(alloc, encoded)? else {
         return Ok(None);
     };
     let named = with_index(text)?;

@@ -17,8 +17,8 @@ use std::io::{Read, Write};
 /// What is written is, request by request, a response that `IsAnswer` says, with the bytes of the file
 /// that was opened for it. A file is read while it is sent. If it ends before its length, or reading it
 /// fails, the connection ends there, with an error, and so it does when out of memory. Each whole request
-/// is answered before more input is awaited, but for a rejected content that is dropped, and the input ends
-/// only where that of the reader does.
+/// is answered before more input is awaited, unless the connection closes, and the input ends only where that
+/// of the reader does.
 pub fn serve_store<S: FileStore, R: Read, W: Write>(
     keys: RandomState,
     config: Config,
