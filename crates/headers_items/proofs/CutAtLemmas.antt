@@ -1,16 +1,13 @@
 -- The pieces of a value, one by one.
-use Rattle.std.proofs.Common.{◌≡◌, ℕ, ◌+◌, ◌<◌, ◌≤◌, List, [], ◌∷◌, ◌++◌, length, drop, get_or, sym, ◌∙◌, ap, subst}
-use Rattle.std.{proofs.Common.append_assoc, specs.List.slice_range, proofs.lemmas.List.{drop_more, drop_all, take_rest}}
-use Rattle.std.proofs.lemmas.List.{map_push}
-use Rattle.http_header.specs.FieldValue.{FieldValue}
-use Rattle.headers_items.{specs.Places.pieces, specs.CutLaw.AreCuts}
-use Rattle.headers_syntax.specs.Lines.{lines_of}
+use Rattle.{headers_items.specs.{CutLaw.AreCuts, Places.pieces}, headers_syntax.specs.Lines.lines_of}
+use Rattle.{http_header.specs.FieldValue.FieldValue, std.proofs.Common.{List, [], append_assoc, arith, drop, get_or}}
+use Rattle.std.proofs.{Common.{length, subst, ℕ, ◌++◌, ◌+◌, ◌<◌, ◌∷◌, ◌≡◌, ◌≤◌}, lemmas.Grind.common_steps}
+use Rattle.std.{proofs.lemmas.List.{drop_all, drop_more, map_push, take_rest}, specs.List.slice_range}
 
 -- a value more
 pub lines_of_push : (xs ys : List FieldValue) (x : FieldValue) (line : List ℕ) → ys ≡ xs ++ x ∷ [] → x.bytes ≡ line
     → lines_of ys ≡ lines_of xs ++ line ∷ []
-lines_of_push xs ys x line e f = ap lines_of e ∙ map_push (λ (v : FieldValue). v.bytes) xs x
-    ∙ ap (λ r. lines_of xs ++ r ∷ []) f
+lines_of_push xs ys x line e f = grind (arith, map_push)
 
 -- one piece more
 pub pieces_more : (s : List ℕ) (start p i : ℕ) (places : List ℕ) (before after all : List (List ℕ))
@@ -18,19 +15,14 @@ pub pieces_more : (s : List ℕ) (start p i : ℕ) (places : List ℕ) (before a
     → after ≡ before ++ slice_range s start p ∷ [] → after ++ pieces s (p + 1) (drop (i + 1) places) ≡ all
 unfolding pieces
 pieces_more s start p i places before after all l q so_far e =
-    ap (λ r. r ++ pieces s (p + 1) (drop (i + 1) places)) e
-    ∙ append_assoc before (slice_range s start p ∷ []) (pieces s (p + 1) (drop (i + 1) places))
-    ∙ ap (λ k. before ++ pieces s start (k ∷ drop (i + 1) places)) q
-    ∙ sym (ap (λ ds. before ++ pieces s start ds) (drop_more places i 0 l)) ∙ so_far
+    grind (arith, common_steps, drop, append_assoc, drop_more)
 
 -- the last piece
 pub pieces_last : (s : List ℕ) (start i : ℕ) (places : List ℕ) (before after all : List (List ℕ)) → length places ≤ i
     → before ++ pieces s start (drop i places) ≡ all → after ≡ before ++ slice_range s start (length s) ∷ []
     → after ≡ all
 unfolding pieces
-pieces_last s start i places before after all l so_far e =
-    e ∙ ap (λ r. before ++ r ∷ []) (take_rest s start)
-    ∙ sym (ap (λ ds. before ++ pieces s start ds) (drop_all i places l)) ∙ so_far
+pieces_last s start i places before after all l so_far e = grind (arith, common_steps, take_rest, drop_all)
 
 -- the cuts that are left
 pub AreCuts-more : (sep : ℕ) (s : List ℕ) (start i : ℕ) (places : List ℕ) → i < length places

@@ -1,26 +1,21 @@
 -- The pieces of a list by one pass over its bytes, and the law of joined lines.
-use Rattle.std.proofs.Common.{◌≡◌, ◌≢◌, inl, inr, ⊎_elim, ℕ, zero, suc, ◌+◌, ◌-◌, ◌<◌, ◌≤◌, Bool, true, false, not}
-use Rattle.std.proofs.Common.{cond, eqb}
-use Rattle.std.proofs.Common.{◌&&◌, List, [], ◌∷◌, ◌++◌, map, length, take, drop, get_or, refl, sym, ◌∙◌, ap, subst}
-use Rattle.std.{proofs.Common.{arith, append-nil}}
-use Rattle.std.{specs.List.{filter, prefix_len, onto_first, count_by, list_all, flat_map}}
-use Rattle.std.{specs.List.slice_range, proofs.lemmas.Bool.{and_parts, and_from, eqb-true, eqb-false, ne_eqb}}
-use Rattle.std.{proofs.lemmas.Bool.{false≢true, cases_Bool}, proofs.lemmas.List.{map-append, drop_more, drop_all}}
-use Rattle.std.proofs.lemmas.List.{take-append-drop, take-take, drop-take, drop-drop}
-use Rattle.std.{proofs.lemmas.Bool.Decides.nat_tests, proofs.lemmas.List.Sums.{sum_by-cons, sum_by-append}}
-use Rattle.headers_syntax.{specs.Text.{quote, is_blank, is_text, trim, is_quote}, proofs.TextLemmas.list_all-both}
-use Rattle.headers_syntax.proofs.TextLemmas.{list_all-parts}
-use Rattle.headers_items.specs.Places.{is_even, quotes_before, is_counting_place, places, pieces, counting_from, items}
-use Rattle.headers_items.{specs.Separator.IsSeparator, specs.Merge.merge, specs.CutLaw.{HasItemsOf, IsMerged, AreCuts}}
-use Rattle.headers_items.proofs.PlacesLemmas.{is_even-more, counting_place_parts, parity_quote, parity_other}
-use Rattle.headers_items.proofs.PlacesLemmas.{counting_step}
-use Rattle.http_header.specs.Token.{is_visible_or_blank}
+use Rattle.headers_items.proofs.PlacesLemmas.{counting_place_parts, counting_step, is_even-more, parity_other}
+use Rattle.headers_items.{proofs.PlacesLemmas.parity_quote, specs.{CutLaw.{AreCuts, HasItemsOf, IsMerged}, Merge.merge}}
+use Rattle.headers_items.specs.Places.{counting_from, is_counting_place, is_even, items, pieces, places, quotes_before}
+use Rattle.{headers_items.specs.Separator.IsSeparator, headers_syntax.proofs.TextLemmas.{list_all-both, list_all-parts}}
+use Rattle.headers_syntax.specs.Text.{is_blank, is_quote, is_text, quote, trim}
+use Rattle.{http_header.specs.Token.is_visible_or_blank, std.proofs.Common.{Bool, List, [], ap, append-nil, arith}}
+use Rattle.std.proofs.Common.{cond, drop, eqb, false, get_or, inl, inr, length, map, not, refl, suc, sym, take, true}
+use Rattle.std.proofs.Common.{zero, ℕ, ⊎_elim, ◌&&◌, ◌++◌, ◌+◌, ◌-◌, ◌<◌, ◌∙◌, ◌∷◌, ◌≡◌, ◌≢◌, ◌≤◌}
+use Rattle.std.proofs.lemmas.{Bool.{and_from, and_parts, cases_Bool, eqb-false, false≢true, ne_eqb}, Grind.common_steps}
+use Rattle.std.proofs.lemmas.List.{drop-drop, drop-take, drop_all, drop_more, map-append, take-append-drop, take-take}
+use Rattle.std.{proofs.lemmas.List.Sums.{sum_by-append, sum_by-cons}, specs.List.{count_by, filter, flat_map, list_all}}
+use Rattle.std.specs.List.{onto_first, prefix_len, slice_range}
 
 -- the pieces by one pass, where `even` says whether an even number of quotes stands before
 pub cuts : ℕ → Bool → List ℕ → List (List ℕ)
 cuts sep even [] = [] ∷ []
-cuts sep even (x ∷ xs) =
-    cond (is_quote x) (onto_first x (cuts sep (not even) xs))
+cuts sep even (x ∷ xs) = cond (is_quote x) (onto_first x (cuts sep (not even) xs))
     (cond (eqb x sep && even) ([] ∷ cuts sep even xs) (onto_first x (cuts sep even xs)))
 
 -- the parity after some bytes
@@ -57,15 +52,14 @@ pub cuts-append : (sep : ℕ) (even : Bool) (a b : List ℕ) → sep ≢ quote �
 unfolding cuts parity_after
 cuts-append sep even [] b ne p = grind arith
 cuts-append sep even (x ∷ xs) b ne p =
-    let turned = onto-append x (cuts sep (not even) xs) (cuts sep true b) (cuts_some sep (not even) xs) in
+    let turned = onto-append x (cuts sep (not even) xs) (cuts sep true b) (grind (arith, common_steps, cuts_some)) in
     let kept = onto-append x (cuts sep even xs) (cuts sep true b) (cuts_some sep even xs) in
     grind (arith, cuts-append sep (not even) xs b ne, cuts-append sep even xs b ne)
 
 -- a space before the first piece is trimmed off
 map_trim_onto : (ps : List (List ℕ)) → ps ≢ [] → map trim (onto_first 32 ps) ≡ map trim ps
 map_trim_onto [] some = absurd (some refl)
-map_trim_onto (p ∷ ps) some =
-    let e : 1 + prefix_len is_blank p ≡ suc (prefix_len is_blank p) = omega arith in rw e refl
+map_trim_onto (p ∷ ps) some = let e : 1 + prefix_len is_blank p ≡ suc (prefix_len is_blank p) = omega arith in rw e refl
 
 cuts_space : (sep : ℕ) (s : List ℕ) → sep ≢ 32 → cuts sep true (32 ∷ s) ≡ onto_first 32 (cuts sep true s)
 unfolding cuts
@@ -81,38 +75,25 @@ HeadFrom i (p ∷ ps) = i ≤ p
 head_from : (f : ℕ → Bool) (j i n : ℕ) → j ≤ i → HeadFrom j (filter f (places i n))
 unfolding places HeadFrom
 head_from f j i zero l = tt
-head_from f j i (suc n) l =
-    ⊎_elim (λ y. rw y l) (λ y. rw y (head_from f j (i + 1) n (omega arith))) (cases_Bool (f i))
+head_from f j i (suc n) l = ⊎_elim (λ y. rw y l) (λ y. rw y (head_from f j (i + 1) n (omega arith))) (cases_Bool (f i))
 
 pieces_onto : (s : List ℕ) (i : ℕ) (ps : List ℕ) → i < length s → HeadFrom (i + 1) ps
     → pieces s i ps ≡ onto_first (get_or s i 0) (pieces s (i + 1) ps)
 unfolding pieces HeadFrom
 pieces_onto s i [] l h = rw (drop_more s i 0 l) refl
-pieces_onto s i (p ∷ ps) l h =
-    let n : p - i ≡ suc (p - (i + 1)) = omega arith in rw (drop_more s i 0 l, n) refl
+pieces_onto s i (p ∷ ps) l h = let n : p - i ≡ suc (p - (i + 1)) = omega arith in rw (drop_more s i 0 l, n) refl
 
 pub pieces_cuts : (sep : ℕ) (s : List ℕ) (i n : ℕ) → sep ≢ quote → i + n ≡ length s
     → pieces s i (counting_from sep s i) ≡ cuts sep (is_even (quotes_before s i)) (drop i s)
 unfolding pieces cuts places is_counting_place
-pieces_cuts sep s i zero ne e =
-    let n : length s - i ≡ 0 = omega arith in rw (n, drop_all i s (omega arith)) refl
-pieces_cuts sep s i (suc n) ne e =
-    let l : i < length s = omega arith in
-    let later = pieces_cuts sep s (i + 1) n ne (omega arith) in
-    let nothing : i - i ≡ 0 = omega arith in
-    rw (counting_step sep s i l, drop_more s i 0 l)
-    (elim (cases_Bool (is_counting_place sep s i)) [
-      | inl here ↦
-          let byte = (counting_place_parts sep s i here).0 in
-          let no : get_or s i 0 ≢ quote = λ z. ne (sym byte ∙ z) in
-          rw (here, nothing, later, parity_other s i l no, ne_eqb _ _ no) refl
+pieces_cuts sep s i zero ne e = let n : length s - i ≡ 0 = omega arith in rw (n, drop_all i s (omega arith)) refl
+pieces_cuts sep s i (suc n) ne e = let l : i < length s = omega arith in
+    let later = pieces_cuts sep s (i + 1) n ne (omega arith) in let nothing : i - i ≡ 0 = omega arith in
+    rw (counting_step sep s i l, drop_more s i 0 l) (elim (cases_Bool (is_counting_place sep s i)) [
+      | inl here ↦ grind (arith, counting_place_parts sep s i here, parity_other, ne_eqb)
       | inr other ↦
-          let onto = pieces_onto s i (counting_from sep s (i + 1)) l
-          (head_from (is_counting_place sep s) (i + 1) (i + 1) (length s - (i + 1)) (omega arith)) in
-          elim (cases_Bool (is_quote (get_or s i 0))) [
-            | inl q ↦ rw (other, onto, later, q, parity_quote s i l (eqb-true _ _ q)) refl
-            | inr q ↦ rw (other, onto, later, q, parity_other s i l (eqb-false _ _ q)) refl
-          ]
+          let onto = pieces_onto s i (counting_from sep s (i + 1)) l (head_from (is_counting_place sep s) (i + 1)
+          (i + 1) (length s - (i + 1)) (omega arith)) in grind (arith, parity_quote, parity_other, eqb-false)
     ])
 
 -- ---- the law of joined lines
@@ -120,14 +101,8 @@ pieces_cuts sep s i (suc n) ne e =
 parity_count : (n : ℕ) (s : List ℕ) → parity_after (is_even n) s ≡ is_even (n + count_by is_quote s)
 unfolding parity_after
 parity_count n [] = ap is_even (let e : n ≡ n + 0 = omega arith in e)
-parity_count n (x ∷ xs) =
-    grind (
-      arith,
-      sum_by-cons (λ y. cond (is_quote y) 1 0) x xs,
-      is_even-more n,
-      parity_count n xs,
-      parity_count (n + 1) xs,
-    )
+parity_count n (x ∷ xs) = grind
+    (arith, sum_by-cons (λ y. cond (is_quote y) 1 0) x xs, is_even-more n, parity_count n xs, parity_count (n + 1) xs)
 
 pub zero_even : (s : List ℕ) → is_even (quotes_before s 0) ≡ true
 zero_even [] = refl
@@ -138,9 +113,7 @@ items_cuts sep s ne t = rw (t, pieces_cuts sep s 0 (length s) ne (omega arith), 
 
 -- the text before a separator, the separator and the text after it
 text_parts : (sep : ℕ) (a b : List ℕ) → is_text (a ++ sep ∷ b) ≡ true → (is_text a ≡ true) × (is_text b ≡ true)
-text_parts sep a b t =
-    let parts = list_all-parts is_visible_or_blank a (sep ∷ b) t in
-    (parts.0, (and_parts (is_visible_or_blank sep) (is_text b) parts.1).1)
+text_parts sep a b t = grind (arith, common_steps, list_all-parts)
 
 text_joined : (sep : ℕ) (a b : List ℕ) → IsSeparator sep → is_text a ≡ true → is_text b ≡ true
     → is_text (a ++ sep ∷ 32 ∷ b) ≡ true
@@ -149,43 +122,33 @@ text_joined sep a b f ta tb = list_all-both is_visible_or_blank a (sep ∷ 32 �
 -- a text cut at a counting place has the items of its parts
 pub items_apart : (sep : ℕ) (a b : List ℕ) → IsSeparator sep → is_text (a ++ sep ∷ b) ≡ true
     → is_even (count_by is_quote a) ≡ true → items sep (a ++ sep ∷ b) ≡ items sep a ++ items sep b
-items_apart sep a b f t p =
-    let ne = f.no_quote in
-    let parts = text_parts sep a b t in
-    let none : 0 + count_by is_quote a ≡ count_by is_quote a = omega arith in
-    let even : parity_after true a ≡ true = rw (parity_count 0 a, none) p in
-    items_cuts sep (a ++ sep ∷ b) ne t
-    ∙ rw (cuts-append sep true a b ne even, map-append, ← items_cuts sep a ne parts.0, ← items_cuts sep b ne parts.1)
+items_apart sep a b f t p = grind (arith, common_steps, text_parts, parity_count, items_cuts, cuts-append, map-append)
 
 -- a space at the head of a text is trimmed off
 items_space : (sep : ℕ) (b : List ℕ) → IsSeparator sep → is_text b ≡ true → items sep (32 ∷ b) ≡ items sep b
-items_space sep b f t =
-    let no_space : sep ≢ 32 = λ e. false≢true (sym f.no_blank ∙ ap is_blank e) in
-    items_cuts sep (32 ∷ b) f.no_quote t ∙ ap (map trim) (cuts_space sep b no_space)
-    ∙ map_trim_onto (cuts sep true b) (cuts_some sep true b) ∙ sym (items_cuts sep b f.no_quote t)
+items_space sep b f t = let no_space : sep ≢ 32 = λ e. false≢true (sym f.no_blank ∙ ap is_blank e) in
+    items_cuts sep (32 ∷ b) f.no_quote t ∙ ap (map trim) (cuts_space sep b no_space) ∙ map_trim_onto (cuts sep true b)
+    (cuts_some sep true b) ∙ sym (items_cuts sep b f.no_quote t)
 
 -- two texts, joined after an even number of quotes
 pub items_joined : (sep : ℕ) (a b : List ℕ) → IsSeparator sep → is_text a ≡ true → is_text b ≡ true
     → is_even (count_by is_quote a) ≡ true → items sep (a ++ sep ∷ 32 ∷ b) ≡ items sep a ++ items sep b
-items_joined sep a b f ta tb p =
-    items_apart sep a (32 ∷ b) f (text_joined sep a b f ta tb) p ∙ ap (λ r. items sep a ++ r) (items_space sep b f tb)
+items_joined sep a b f ta tb p = grind (arith, common_steps, items_apart, text_joined, items_space)
 
 is_text_merge : (sep : ℕ) (lines : List (List ℕ)) → IsSeparator sep → list_all is_text lines ≡ true
     → is_text (merge sep lines) ≡ true
 is_text_merge sep [] f h = refl
 is_text_merge sep (x ∷ []) f h = (and_parts _ _ h).0
-is_text_merge sep (x ∷ y ∷ ys) f h =
-    let parts = and_parts (is_text x) (list_all is_text (y ∷ ys)) h in
+is_text_merge sep (x ∷ y ∷ ys) f h = let parts = and_parts (is_text x) (list_all is_text (y ∷ ys)) h in
     text_joined sep x (merge sep (y ∷ ys)) f parts.0 (is_text_merge sep (y ∷ ys) f parts.1)
 
 -- the items of joined lines
 pub HasItemsOf-merge : (sep : ℕ) (lines : List (List ℕ)) → IsSeparator sep → HasItemsOf sep lines (merge sep lines)
 HasItemsOf-merge sep [] f = tt
 HasItemsOf-merge sep (x ∷ []) f = λ t e. sym (append-nil (items sep x))
-HasItemsOf-merge sep (x ∷ y ∷ ys) f = λ t e.
-    let parts = and_parts (is_text x) (list_all is_text (y ∷ ys)) t in
-    items_joined sep x (merge sep (y ∷ ys)) f parts.0 (is_text_merge sep (y ∷ ys) f parts.1) e.0
-    ∙ ap (λ r. items sep x ++ r) (HasItemsOf-merge sep (y ∷ ys) f parts.1 e.1)
+HasItemsOf-merge sep (x ∷ y ∷ ys) f = λ t e. let parts = and_parts (is_text x) (list_all is_text (y ∷ ys)) t in
+    items_joined sep x (merge sep (y ∷ ys)) f parts.0 (is_text_merge sep (y ∷ ys) f parts.1) e.0 ∙ ap
+    (λ r. items sep x ++ r) (HasItemsOf-merge sep (y ∷ ys) f parts.1 e.1)
 
 -- lines that a value was cut into, each time at a separator with an even number of quotes before it, which is left out
 abbrev pub IsCutInto : ℕ → List ℕ → List (List ℕ) → Type 0
@@ -201,39 +164,24 @@ pub items_recut : (sep : ℕ) (s : List ℕ) (lines : List (List ℕ)) → IsSep
     × (flat_map (items sep) lines ≡ items sep s)
 items_recut sep s [] f t h = absurd h
 items_recut sep s (x ∷ []) f t h = rw (← h) (t, refl, append-nil (items sep s))
-items_recut sep s (x ∷ y ∷ ys) f t h =
-    let t' : is_text (x ++ sep ∷ h.0) ≡ true = rw h.1 at t in
-    let parts = text_parts sep x h.0 t' in
-    let later = items_recut sep h.0 (y ∷ ys) f parts.1 h.3 in
-    let whole : items sep s ≡ items sep x ++ items sep h.0 = ap (items sep) h.1 ∙ items_apart sep x h.0 f t' h.2 in (
-      text_joined sep x (merge sep (y ∷ ys)) f parts.0 later.0,
-      items_joined sep x (merge sep (y ∷ ys)) f parts.0 later.0 h.2 ∙ cc (whole, later.1),
-      cc (whole, later.2),
-    )
+items_recut sep s (x ∷ y ∷ ys) f t h = let t' : is_text (x ++ sep ∷ h.0) ≡ true = rw h.1 at t in
+    let parts = text_parts sep x h.0 t' in let later = items_recut sep h.0 (y ∷ ys) f parts.1 h.3 in
+    grind (arith, common_steps, items_apart, text_joined, merge, items_joined)
 
 -- the front up to p is the front up to i, and the slice between
 take_slice : (s : List ℕ) (i p : ℕ) → i ≤ p → take p s ≡ take i s ++ slice_range s i p
 take_slice s i p l =
-    let e : i + (p - i) ≡ p = omega arith in
-    let rest : drop i (take p s) ≡ slice_range s i p = rw e at (drop-take i (p - i) s) in
-    sym (take-append-drop i (take p s)) ∙ rw (take-take i p s l, rest) refl
+    grind (arith, drop i (take p s), take p s, drop-take i (p - i) s, take-append-drop i (take p s), take-take i p s l)
 
 -- between two places with an even number of quotes before, the quotes are even
 even_slice : (s : List ℕ) (i p : ℕ) → i ≤ p → is_even (quotes_before s i) ≡ true → is_even (quotes_before s p) ≡ true
     → is_even (count_by is_quote (slice_range s i p)) ≡ true
-even_slice s i p l h k =
-    even_rest (quotes_before s i) (count_by is_quote (slice_range s i p)) (quotes_before s p)
-    (ap (count_by is_quote) (take_slice s i p l)
-    ∙ sum_by-append (λ b. cond (is_quote b) 1 0) (take i s) (slice_range s i p)) h k
-  where
-    even_rest : (a b c : ℕ) → c ≡ a + b → is_even a ≡ true → is_even c ≡ true → is_even b ≡ true
-    even_rest a b c e h k = grind (arith, nat_tests)
+even_slice s i p l h k = grind (arith, take_slice s i p l, take i s, sum_by-append)
 
 -- what is left from i, cut at p
 drop_split : (s : List ℕ) (i p sep : ℕ) → i ≤ p → p < length s → get_or s p 0 ≡ sep
     → drop i s ≡ slice_range s i p ++ sep ∷ drop (p + 1) s
-drop_split s i p sep l h b =
-    let e : i + (p - i) ≡ p = omega arith in
+drop_split s i p sep l h b = let e : i + (p - i) ≡ p = omega arith in
     let rest : drop (p - i) (drop i s) ≡ sep ∷ drop (p + 1) s = rw (drop-drop, e, drop_more s p 0 h, b) refl in
     sym (take-append-drop (p - i) (drop i s)) ∙ ap (λ r. slice_range s i p ++ r) rest
 
@@ -242,25 +190,16 @@ pub IsCutInto-pieces : (sep : ℕ) (s : List ℕ) (i : ℕ) (ps : List ℕ) → 
     → AreCuts sep s i ps → IsCutInto sep (drop i s) (pieces s i ps)
 unfolding pieces
 IsCutInto-pieces sep s i [] ne h c = refl
-IsCutInto-pieces sep s i (p ∷ []) ne h c =
-    let here = counting_place_parts sep s p c.2 in
+IsCutInto-pieces sep s i (p ∷ []) ne h c = let here = counting_place_parts sep s p c.2 in
     (drop (p + 1) s, drop_split s i p sep c.0 c.1 here.0, even_slice s i p c.0 h here.1, refl)
-IsCutInto-pieces sep s i (p ∷ q ∷ qs) ne h c =
-    let here = counting_place_parts sep s p c.2 in
-    let even : is_even (quotes_before s (p + 1)) ≡ true = parity_other s p c.1 (λ e. ne (sym here.0 ∙ e)) ∙ here.1 in (
-      drop (p + 1) s,
-      drop_split s i p sep c.0 c.1 here.0,
-      even_slice s i p c.0 h here.1,
-      IsCutInto-pieces sep s (p + 1) (q ∷ qs) ne even c.3,
-    )
+IsCutInto-pieces sep s i (p ∷ q ∷ qs) ne h c = let here = counting_place_parts sep s p c.2 in
+    let even : is_even (quotes_before s (p + 1)) ≡ true = parity_other s p c.1 (λ e. ne (sym here.0 ∙ e)) ∙ here.1 in
+    grind (arith, common_steps, drop, drop_split, even_slice, IsCutInto-pieces sep s (p + 1) (q ∷ qs) ne even c.3)
 
 -- a text cut at counting places has the items of its pieces, merged or one after the other
 pub items_of_pieces : (sep : ℕ) (s ps : List ℕ) → IsSeparator sep → is_text s ≡ true → AreCuts sep s 0 ps
     → (items sep (merge sep (pieces s 0 ps)) ≡ items sep s) × (flat_map (items sep) (pieces s 0 ps) ≡ items sep s)
-items_of_pieces sep s ps f t c =
-    let is_cut = IsCutInto-pieces sep s 0 ps f.no_quote (zero_even s) c in
-    let same = items_recut sep s (pieces s 0 ps) f t is_cut in
-    (same.1, same.2)
+items_of_pieces sep s ps f t c = grind (arith, common_steps, IsCutInto-pieces, zero_even, items_recut)
 
 pub items_cut_at : (sep : ℕ) (s : List ℕ) (ps : List ℕ) → IsSeparator sep → is_text s ≡ true → AreCuts sep s 0 ps
     → items sep (merge sep (pieces s 0 ps)) ≡ items sep s
@@ -268,9 +207,4 @@ items_cut_at sep s ps f t c = (items_of_pieces sep s ps f t c).0
 
 pub IsMerged-from : (sep : ℕ) (lines : List (List ℕ)) (value : List ℕ) → IsSeparator sep → value ≡ merge sep lines
     → IsMerged sep lines value
-IsMerged-from sep lines value f e =
-    record {
-      bytes = e;
-      items_kept = subst (HasItemsOf sep lines) (sym e) (HasItemsOf-merge sep lines f);
-      cuts_kept = λ s ps text cuts p. ap (items sep) (e ∙ ap (merge sep) p) ∙ items_cut_at sep s ps f text cuts;
-    }
+IsMerged-from sep lines value f e = grind (arith, common_steps, HasItemsOf-merge, merge, items_cut_at)

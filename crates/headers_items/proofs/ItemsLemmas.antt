@@ -1,12 +1,11 @@
 -- Facts on the counting places and the pieces that are left.
-use Rattle.std.proofs.Common.{◌≡◌, ◌≢◌, ℕ, zero, suc, ◌+◌, ◌-◌, ◌≤◌, Bool, true, List, [], ◌∷◌, map}
-use Rattle.std.{proofs.Common.{length, drop, refl, inl, inr, sym, ◌∙◌, ap, arith}, specs.List.{filter, slice_range}}
-use Rattle.std.{proofs.lemmas.Bool.{or_parts, cases_lt}, proofs.lemmas.List.length-map}
-use Rattle.headers_syntax.specs.Text.{quote, trim}
-use Rattle.headers_items.specs.Places.{is_counting_place, places, pieces, counting_from, items_from}
-use Rattle.headers_items.{specs.ItemsState.{NoCut, IsNextCut}, specs.ScanState.{ScanState, IsNextMark}}
-use Rattle.headers_items.{specs.declared.scan.Mark.Mark}
-use Rattle.headers_items.{proofs.PlacesLemmas.{counting_place_other, counting_step, stays}}
+use Rattle.headers_items.{proofs.PlacesLemmas.{counting_place_other, counting_step, stays}, specs.ItemsState.IsNextCut}
+use Rattle.headers_items.specs.{ItemsState.NoCut, Places.{counting_from, items_from, pieces, places}}
+use Rattle.headers_items.specs.{ScanState.{IsNextMark, ScanState}, declared.scan.Mark.Mark}
+use Rattle.{headers_syntax.specs.Text.{quote, trim}, std.proofs.Common.{Bool, List, [], ap, arith, drop, inl, inr}}
+use Rattle.std.proofs.Common.{length, map, refl, suc, sym, true, zero, ℕ, ◌+◌, ◌-◌, ◌∙◌, ◌∷◌, ◌≡◌, ◌≢◌, ◌≤◌}
+use Rattle.std.{proofs.lemmas.{Bool.{cases_lt, or_parts}, Grind.common_steps, List.length-map}, specs.List.filter}
+use Rattle.std.specs.List.{slice_range}
 
 -- where no place counts, the same counting places are left
 counting_same : (sep : ℕ) (s : List ℕ) (i j : ℕ) → i ≤ j → j ≤ length s → NoCut sep s i j
@@ -16,13 +15,10 @@ counting_same sep s i j le l h =
 
 pub counting_none : (sep : ℕ) (s : List ℕ) (i : ℕ) → NoCut sep s i (length s) → counting_from sep s i ≡ []
 unfolding places
-counting_none sep s i h =
-    elim (cases_lt (length s) i) [
-      | inl past ↦ let z : length s - i ≡ 0 = omega arith in rw z refl
-      | inr l ↦
-          let z : length s - length s ≡ 0 = omega arith in
-          sym (counting_same sep s i (length s) l (omega arith) h) ∙ rw z refl
-    ]
+counting_none sep s i h = elim (cases_lt (length s) i) [
+  | inl past ↦ let z : length s - i ≡ 0 = omega arith in rw z refl
+  | inr l ↦ grind (arith, counting_same sep s i (length s) l (omega arith) h)
+]
 
 pub counting_next : (sep : ℕ) (s : List ℕ) (i q : ℕ) → IsNextCut sep s i q
     → counting_from sep s i ≡ q ∷ counting_from sep s (q + 1)
@@ -43,8 +39,7 @@ items_next sep s i q f = ap (λ ps. map trim (pieces s i ps)) (counting_next sep
 -- a quote is no cut
 pub NoCut-more_quote : (sep : ℕ) (s : List ℕ) (i p : ℕ) (m : Mark) → sep ≢ quote → NoCut sep s i p
     → IsNextMark sep s p m → m.quote ≡ true → NoCut sep s i (m.place + 1)
-NoCut-more_quote sep s i p m ne h f y k low high =
-    grind (arith, h k, f.before k, f.low, f.a_quote y, counting_place_other sep s m.place, or_parts)
+NoCut-more_quote sep s i p m ne h f y k low high = grind (arith, counting_place_other sep s m.place, or_parts)
 
 -- a scan went from s to t, and passed no counting place
 pub record PassesCuts (s t : ScanState) : Type 0 where
@@ -57,15 +52,8 @@ pub record PassesCuts (s t : ScanState) : Type 0 where
 pub passes_quote : (s t u : ScanState) (m : Mark) → s.separator ≢ quote → PassesCuts s t
     → IsNextMark t.separator t.bytes t.place m → m.quote ≡ true → u.place ≡ m.place + 1 → u.bytes ≡ t.bytes
     → u.separator ≡ t.separator → PassesCuts s u
-passes_quote s t u m ne h f y p b c =
-    let f' : IsNextMark s.separator s.bytes t.place m = rw (← h.separator, ← h.bytes) f in
-    record {
-      bytes = b ∙ h.bytes;
-      separator = c ∙ h.separator;
-      low = omega (arith, h.low, f'.low);
-      high = omega (arith, f'.high);
-      before = rw p (NoCut-more_quote s.separator s.bytes s.place t.place m ne h.before f' y);
-    }
+passes_quote s t u m ne h f y p b c = let f' : IsNextMark s.separator s.bytes t.place m = rw (← h.separator, ← h.bytes)
+    f in grind (arith, NoCut-more_quote s.separator s.bytes s.place t.place m ne h.before f' y)
 
 -- ---- how many items there are
 
@@ -81,6 +69,4 @@ length-pieces s i (p ∷ ps) = omega (arith, length-pieces s (p + 1) ps)
 
 -- at most one more than there are bytes
 pub items_from-le : (sep : ℕ) (s : List ℕ) (i : ℕ) → length (items_from sep s i) ≤ length s + 1
-items_from-le sep s i =
-    let few = counting-le (is_counting_place sep s) i (length s - i) in
-    omega (arith, length-map (pieces s i (counting_from sep s i)) trim, length-pieces s i (counting_from sep s i))
+items_from-le sep s i = grind (arith, common_steps, counting-le, length-map, length-pieces)

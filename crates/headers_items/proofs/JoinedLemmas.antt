@@ -1,24 +1,20 @@
 -- Pieces that are joined by comma and space have themselves as their entries.
-use Rattle.std.proofs.Common.{◌≡◌, ℕ, true, not, nat_lt, cond, List, [], ◌∷◌, ◌++◌, length, filter, refl, ◌∙◌, ap}
-use Rattle.std.{proofs.Common.arith, specs.List.{list_all, flat_map, count_by}, proofs.lemmas.Bool.and_parts}
-use Rattle.std.{proofs.lemmas.Bool.{ltb-true, ne_eqb}, proofs.lemmas.List.append-nil}
-use Rattle.std.proofs.lemmas.List.Sums.{sum_by-cons}
-use Rattle.headers_syntax.{specs.Text.{is_text, is_quote}, proofs.PlainLemmas.{is_plain, is_piece, plain_bounds}}
-use Rattle.headers_syntax.proofs.PlainLemmas.{piece_at, trim_piece, text_piece, no_quote}
-use Rattle.headers_items.{specs.Places.{pieces, places, is_even, items}, specs.Separator.comma_is_separator}
-use Rattle.headers_items.{specs.Merge.merge, specs.CutLaw.EvenButLast, specs.ItemsState.{NoCut, is_entry}}
-use Rattle.headers_items.{specs.Entries.{entries, line_entries}, proofs.CutLemmas.HasItemsOf-merge}
-use Rattle.headers_items.{proofs.ItemsLemmas.items_last, proofs.PlacesLemmas.counting_place_other}
+use Rattle.headers_items.proofs.{CutLemmas.HasItemsOf-merge, ItemsLemmas.items_last, PlacesLemmas.counting_place_other}
+use Rattle.headers_items.specs.{CutLaw.EvenButLast, Entries.{entries, line_entries}, ItemsState.{NoCut, is_entry}}
+use Rattle.headers_items.specs.{Merge.merge, Places.{is_even, items, pieces, places}, Separator.comma_is_separator}
+use Rattle.headers_syntax.proofs.PlainLemmas.{is_piece, is_plain, no_quote, plain_bounds, text_piece, trim_piece}
+use Rattle.{headers_syntax.specs.Text.{is_quote, is_text}, std.proofs.Common.{List, [], ap, arith, filter, length}}
+use Rattle.std.proofs.{Common.{nat_lt, refl, true, ℕ, ◌∙◌, ◌∷◌, ◌≡◌}, lemmas.Bool.{and_parts, ne_eqb}}
+use Rattle.std.{proofs.lemmas.{Grind.common_steps, List.{append-nil, Sums.sum_by-cons}}, specs.List.count_by}
+use Rattle.std.specs.List.{flat_map, list_all}
 
 no_quotes : (p : List ℕ) → list_all is_plain p ≡ true → count_by is_quote p ≡ 0
 no_quotes [] h = refl
-no_quotes (b ∷ p) h =
-    grind (arith, no_quotes p, sum_by-cons (λ y. cond (is_quote y) 1 0) b p, plain_bounds b, no_quote b)
+no_quotes (b ∷ p) h = grind (arith, plain_bounds b, no_quote b, sum_by-cons, no_quotes p)
 
 items_piece : (p : List ℕ) → list_all is_plain p ≡ true → items 44 p ≡ p ∷ []
 items_piece p h =
-    let none : NoCut 44 p 0 (length p) = λ k a l. counting_place_other 44 p k (piece_at p h k l).2 in
-    rw (text_piece p h) (items_last 44 p 0 (omega arith) none ∙ ap (λ r. r ∷ []) (trim_piece p h))
+    grind (arith, common_steps, counting_place_other, text_piece, items_last, trim_piece) steps 400000
 
 -- pieces that are joined
 pieces_text : (xs : List (List ℕ)) → list_all is_piece xs ≡ true → list_all is_text xs ≡ true
@@ -28,19 +24,13 @@ pieces_text (x ∷ xs) h = grind (arith, pieces_text xs, text_piece x)
 pieces_even : (xs : List (List ℕ)) → list_all is_piece xs ≡ true → EvenButLast xs
 pieces_even [] h = tt
 pieces_even (x ∷ []) h = tt
-pieces_even (x ∷ y ∷ xs) h =
-    let p = and_parts (is_piece x) (list_all is_piece (y ∷ xs)) h in
+pieces_even (x ∷ y ∷ xs) h = let p = and_parts (is_piece x) (list_all is_piece (y ∷ xs)) h in
     (ap is_even (no_quotes x (and_parts (nat_lt 0 (length x)) (list_all is_plain x) p.0).1), pieces_even (y ∷ xs) p.1)
 
 pieces_items : (xs : List (List ℕ)) → list_all is_piece xs ≡ true → filter is_entry (flat_map (items 44) xs) ≡ xs
 pieces_items [] h = refl
-pieces_items (x ∷ xs) h =
-    let p = and_parts (is_piece x) (list_all is_piece xs) h in
-    let q = and_parts (nat_lt 0 (length x)) (list_all is_plain x) p.0 in
-    let some : is_entry x ≡ true = ap not (ne_eqb (length x) 0 (λ e. let l = ltb-true _ _ q.0 in omega (arith, e, l)))
-    in
-    ap (λ r. filter is_entry (r ++ flat_map (items 44) xs)) (items_piece x q.1)
-    ∙ rw some (ap (λ r. x ∷ r) (pieces_items xs p.1))
+pieces_items (x ∷ xs) h = let p = and_parts (is_piece x) (list_all is_piece xs) h in
+    grind (arith, ne_eqb, filter, items_piece, pieces_items xs p.1)
 
 no_items : filter is_entry (items 44 []) ≡ []
 unfolding pieces places
@@ -48,8 +38,5 @@ no_items = refl
 
 pub entries_joined : (xs : List (List ℕ)) → list_all is_piece xs ≡ true → entries (merge 44 xs ∷ []) ≡ xs
 entries_joined [] h = append-nil (line_entries []) ∙ no_items
-entries_joined (x ∷ xs) h =
-    append-nil (line_entries (merge 44 (x ∷ xs)))
-    ∙ ap (filter is_entry)
-    (HasItemsOf-merge 44 (x ∷ xs) comma_is_separator (pieces_text (x ∷ xs) h) (pieces_even (x ∷ xs) h))
-    ∙ pieces_items (x ∷ xs) h
+entries_joined (x ∷ xs) h = append-nil (line_entries (merge 44 (x ∷ xs))) ∙ ap (filter is_entry) (HasItemsOf-merge 44 (x
+    ∷ xs) comma_is_separator (pieces_text (x ∷ xs) h) (pieces_even (x ∷ xs) h)) ∙ pieces_items (x ∷ xs) h

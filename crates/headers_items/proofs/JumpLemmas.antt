@@ -1,13 +1,11 @@
 -- A search for the next mark by searches for bytes.
-use Rattle.std.proofs.Common.{◌≡◌, ℕ, ◌+◌, ◌-◌, ◌<◌, ◌≤◌, Bool, true, false, eqb, List, length, take, drop}
-use Rattle.std.{proofs.Common.{get_or, sym, ◌∙◌, ap, arith, Option, None, Some}, specs.Prelude.not}
-use Rattle.std.{specs.Prelude.if◌then◌else◌, specs.Option.MatchOption, proofs.lemmas.Bool.false_from_ne_true}
-use Rattle.std.proofs.lemmas.Bool.{not-true, not-false, or_parts, or_from, eqb-true, eqb-false, false≢true}
-use Rattle.std.proofs.lemmas.List.{get_or-drop, length-drop, take_rest}
-use Rattle.memchr.specs.Find.{IsFirstByte, is_byte, is_byte2}
-use Rattle.headers_items.{specs.Places.{is_even, quotes_before, is_counting_place, NoHit}, specs.ScanState.IsNextMark}
-use Rattle.headers_items.{specs.declared.scan.Mark.Mark, proofs.PlacesLemmas.{NoQuote, quotes_along}}
-use Rattle.headers_items.proofs.PlacesLemmas.{counting_place_other, counting_place_inside, counting_place_from}
+use Rattle.headers_items.proofs.PlacesLemmas.{NoQuote, counting_place_from, counting_place_inside, counting_place_other}
+use Rattle.headers_items.{proofs.PlacesLemmas.quotes_along, specs.Places.{NoHit, is_counting_place, is_even}}
+use Rattle.headers_items.specs.{Places.quotes_before, ScanState.IsNextMark, declared.scan.Mark.Mark}
+use Rattle.{memchr.specs.Find.{IsFirstByte, is_byte, is_byte2}, std.proofs.Common.{Bool, List, None, Option, Some}}
+use Rattle.std.proofs.Common.{arith, drop, eqb, false, get_or, length, sym, take, true, ℕ, ◌+◌, ◌-◌, ◌<◌, ◌∙◌, ◌≡◌, ◌≤◌}
+use Rattle.std.proofs.lemmas.{Bool.{eqb-false, eqb-true, false≢true, not-true, or_from, or_parts}, List.get_or-drop}
+use Rattle.std.{proofs.lemmas.List.{length-drop, take_rest}, specs.{Option.MatchOption, Prelude.{if◌then◌else◌, not}}}
 
 -- the mark at place p
 abbrev pub mark_at : List ℕ → ℕ → Mark
@@ -25,34 +23,24 @@ NonePasses test s i j = (k : ℕ) → i ≤ k → k < j → test (get_or s k 0) 
 -- what a test that fails in the rest of s says of s
 fails_upto : (test : ℕ → Bool) (s : List ℕ) (i n : ℕ)
     → ((k : ℕ) → 0 ≤ k → k < n → test (get_or (drop i s) k 0) ≡ true → ⊥) → NonePasses test s i (i + n)
-fails_upto test s i n h k low high =
-    let e : i + (k - i) ≡ k = omega arith in
-    let no = false_from_ne_true _ (h (k - i) (omega arith) (omega arith)) in
-    rw (get_or-drop i s (k - i) 0, e) at no
+fails_upto test s i n h k low high = grind (arith, get_or-drop i s (k - i) 0)
 
 -- neither byte, neither hit
 outside_none : (sep : ℕ) (s : List ℕ) (i j : ℕ) → NonePasses (is_byte2 34 sep) s i j → NoHit sep s i j
-outside_none sep s i j h k low high =
-    let parts = or_parts _ _ (h k low high) in
-    or_from _ _ parts.0 (counting_place_other sep s k (eqb-false _ _ parts.1))
+outside_none sep s i j h k low high = grind (arith, or_parts, or_from, counting_place_other, eqb-false)
 
 -- inside quotes no place before the next quote is a counting place
 inside_none : (sep : ℕ) (s : List ℕ) (i j : ℕ) → j ≤ length s → is_even (quotes_before s i) ≡ false → NoQuote s i j
     → NoHit sep s i j
-inside_none sep s i j l odd h k low high =
-    let same = quotes_along s i k low (omega arith) (λ n a b. h n a (omega arith)) in
-    or_from _ _ (h k low high) (counting_place_inside sep s k (ap is_even same ∙ odd))
+inside_none sep s i j l odd h k low high = grind (arith, quotes_along, or_from, counting_place_inside)
 
 -- from place i, by a search of the rest of s for what passes a test
-ahead_by : (test : ℕ → Bool) (sep : ℕ) (s : List ℕ) (i : ℕ) (r : Option ℕ) → i ≤ length s
-    → ((j : ℕ) → j ≤ length s → NonePasses test s i j → NoHit sep s i j)
-    → ((p : ℕ) → i ≤ p → p < length s → NonePasses test s i p → test (get_or s p 0) ≡ true
-    → eqb (get_or s p 0) 34 ≡ false → is_counting_place sep s p ≡ true)
+ahead_by : (test : ℕ → Bool) (sep : ℕ) (s : List ℕ) (i : ℕ) (r : Option ℕ) → i ≤ length s →
+    ((j : ℕ) → j ≤ length s → NonePasses test s i j → NoHit sep s i j) → ((p : ℕ) → i ≤ p → p < length s → NonePasses
+    test s i p → test (get_or s p 0) ≡ true → eqb (get_or s p 0) 34 ≡ false → is_counting_place sep s p ≡ true)
     → IsFirstByte test (take (length s - i) (drop i s)) r → FindsAhead sep s i r
-ahead_by test sep s i None l none cut h =
-    let h' : IsFirstByte test (drop i s) None = rw (take_rest s i) at h in
-    let upto = fails_upto test s i (length (drop i s)) h' in
-    none (length s) (omega arith) (λ k a b. upto k a (omega (arith, length-drop i s)))
+ahead_by test sep s i None l none cut h = let h' : IsFirstByte test (drop i s) None = rw (take_rest s i) at h in
+    grind (arith, fails_upto test s i (length (drop i s)) h', drop i s, length-drop i s)
 ahead_by test sep s i (Some k) l none cut h =
     let h' : IsFirstByte test (drop i s) (Some k) = rw (take_rest s i) at h in
     let high : i + k < length s = omega (arith, h'.0.high, length-drop i s) in
@@ -69,16 +57,9 @@ ahead_by test sep s i (Some k) l none cut h =
     )
 
 -- inside quotes or outside them
-pub ahead : (sep : ℕ) (s : List ℕ) (i : ℕ) (inside : Bool) (r : Option ℕ) → i ≤ length s
-    → inside ≡ not (is_even (quotes_before s i))
-    → IsFirstByte (if inside then is_byte 34 else is_byte2 34 sep) (take (length s - i) (drop i s)) r
-    → FindsAhead sep s i r
-ahead sep s i true r l state h =
-    ahead_by (is_byte 34) sep s i r l (λ j high none. inside_none sep s i j high (not-true _ (sym state)) none)
-    (λ p low high none here e. absurd (false≢true (sym e ∙ here))) h
-ahead sep s i false r l state h =
-    ahead_by (is_byte2 34 sep) sep s i r l (λ j high none. outside_none sep s i j none)
-    (λ p low high none here e.
-    let same = quotes_along s i p low (omega arith) (λ n a b. (or_parts _ _ (none n a b)).0) in
-    let byte : eqb (get_or s p 0) sep ≡ true = rw e at here in
-    counting_place_from sep s p (eqb-true _ _ byte) (ap is_even same ∙ not-false _ (sym state))) h
+pub ahead : (sep : ℕ) (s : List ℕ) (i : ℕ) (inside : Bool) (r : Option ℕ) → i ≤ length s → inside ≡ not
+    (is_even (quotes_before s i)) → IsFirstByte (if inside then is_byte 34 else is_byte2 34 sep)
+    (take (length s - i) (drop i s)) r → FindsAhead sep s i r
+ahead sep s i true r l state h = ahead_by (is_byte 34) sep s i r l (λ j high none. inside_none sep s i j high
+    (not-true _ (sym state)) none) (λ p low high none here e. absurd (false≢true (sym e ∙ here))) h
+ahead sep s i false r l state h = grind (arith, ahead_by, outside_none, quotes_along, or_parts, counting_place_from)

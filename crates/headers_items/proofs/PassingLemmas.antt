@@ -1,12 +1,11 @@
 -- An iterator that yields only some of the items, and passes over the others.
-use Rattle.std.proofs.Common.{◌≡◌, ℕ, ◌≤◌, Bool, true, false, List, [], ◌∷◌, ◌++◌, length, drop, map, ◌≢◌, Some}
-use Rattle.std.proofs.Common.{refl, sym, ◌∙◌, ap, arith, inl, inr, ⊎_elim, append_assoc}
+use Rattle.headers_items.proofs.{ItemsLemmas.counting_none, WalkLemmas.{items_left_done, items_left_open}}
+use Rattle.headers_items.specs.ItemsState.{BeginsPiece, GivesPiece, ItemsState, NoCut, ScansPiece, items_left}
+use Rattle.{headers_items.specs.Places.{items_from, pieces}, headers_syntax.specs.Text.trim, std.proofs.Common.Bool}
+use Rattle.std.proofs.Common.{List, Some, [], ap, append_assoc, arith, drop, false, length, map, refl, sym, true, ℕ}
+use Rattle.std.proofs.{Common.{⊎_elim, ◌++◌, ◌∙◌, ◌∷◌, ◌≡◌, ◌≢◌}, lemmas.Grind.common_steps}
+use Rattle.std.{proofs.lemmas.List.Elements.filter-append, specs.List.filter}
 use denote.Ref.{Bor}
-use Rattle.headers_items.specs.Places.{items_from, pieces, counting_from}
-use Rattle.headers_items.specs.ItemsState.{ItemsState, items_left, BeginsPiece, NoCut, ScansPiece, GivesPiece}
-use Rattle.headers_items.{proofs.WalkLemmas.{items_left_open, items_left_done}, proofs.ItemsLemmas.counting_none}
-use Rattle.std.{specs.List.filter, proofs.lemmas.List.Elements.filter-append}
-use Rattle.headers_syntax.specs.Text.{trim}
 
 -- an iterator went from s to t over items that are not wanted
 pub record PassesUnwanted (wanted : List ℕ → Bool) (s t : ItemsState) : Type 0 where
@@ -19,17 +18,7 @@ pub record PassesUnwanted (wanted : List ℕ → Bool) (s t : ItemsState) : Type
   pub stays : s.is_done ≡ true → t ≡ s
 
 pub PassesUnwanted-none : (wanted : List ℕ → Bool) (s : ItemsState) → PassesUnwanted wanted s s
-PassesUnwanted-none wanted s =
-    record {
-      text = refl;
-      separator = refl;
-      begins = λ _. inl refl;
-      skipped = [];
-      split = refl;
-      passed = refl;
-      stays =
-          λ _. refl;
-    }
+PassesUnwanted-none wanted s = grind arith
 
 -- one that gave an item was not done
 gave_open : (s t : ItemsState) (item : List ℕ) → items_left s ≡ item ∷ items_left t → s.is_done ≡ false
@@ -45,44 +34,33 @@ some_piece s i (p ∷ ps) e = cc e
 last_item : (sep : ℕ) (s : List ℕ) (i : ℕ) (item : List ℕ) (rest : List (List ℕ)) → NoCut sep s i (length s)
     → items_from sep s i ≡ item ∷ rest → rest ≡ []
 unfolding pieces
-last_item sep s i item rest nocut e =
-    let one : trim (drop i s) ∷ [] ≡ item ∷ rest = rw (counting_none sep s i nocut) at e in cc one
+last_item sep s i item rest nocut e = grind (arith, common_steps, drop, counting_none)
 
 -- where a piece ended, the next begins
 begins_after : (sep : ℕ) (s : List ℕ) (i j p : ℕ) (item : List ℕ) (rest : List (List ℕ)) → BeginsPiece sep s i j
     → GivesPiece sep s j item p → items_from sep s j ≡ item ∷ rest → rest ≢ [] → BeginsPiece sep s i p
 begins_after sep s i j p item rest b g e some =
-    ⊎_elim
-    (λ w.
-    let next = w.1 in
-    let low = next.low in
-    let from : i ≤ w.0 = ⊎_elim (λ (a : j ≡ i). omega arith) (λ a. let l = a.1 in let same = a.4 in omega arith) b in
-    inr (w.0, from, next.high, next.here, w.3))
-    (λ w. absurd (some (last_item sep s j item rest w.0 e)))
-    g
+    ⊎_elim (grind arith) (λ w. absurd (some (last_item sep s j item rest w.0 e))) g
 
 begins_next : (wanted : List ℕ → Bool) (s t u : ItemsState) (item : Bor (List ℕ)) → PassesUnwanted wanted s t
     → ScansPiece t (Some item) u → items_left t ≡ item.now ∷ items_left u → t.is_done ≡ false → u.is_done ≡ false
     → u.start ≡ u.place → BeginsPiece s.separator s.text s.start u.start
 begins_next wanted s t u item h f e opn opn' at =
-    let some : items_left u ≢ [] = λ z.
-    some_piece u.text u.start (counting_from u.separator u.text u.start) (sym (items_left_open u opn') ∙ z) in
-    let left : items_from s.separator s.text t.start ≡ item.now ∷ items_left u =
-    rw (← h.text, ← h.separator) (sym (items_left_open t opn) ∙ e) in
+    let some : items_left u ≢ [] = grind (arith, items_left_open u opn', some_piece) in
+    let left : items_from s.separator s.text t.start ≡ item.now ∷ items_left u = grind (arith, items_left_open t opn) in
     let gives : GivesPiece s.separator s.text t.start item.now u.place = rw (← h.text, ← h.separator) f.place in
-    rw at (begins_after s.separator s.text s.start t.start u.place item.now (items_left u) (h.begins opn) gives left
-    some)
+    rw at
+    (begins_after s.separator s.text s.start t.start u.place item.now (items_left u) (h.begins opn) gives left some)
 
 pub PassesUnwanted-more : (wanted : List ℕ → Bool) (s t u : ItemsState) (item : Bor (List ℕ))
     → PassesUnwanted wanted s t → ScansPiece t (Some item) u → items_left t ≡ item.now ∷ items_left u
     → (u.is_done ≡ false → u.start ≡ u.place) → wanted item.now ≡ false → PassesUnwanted wanted s u
-PassesUnwanted-more wanted s t u item h f e at none =
-    record {
-      text = f.text ∙ h.text;
-      separator = f.separator ∙ h.separator;
-      begins = λ opn. begins_next wanted s t u item h f e (gave_open t u item.now e) opn (at opn);
-      skipped = h.skipped ++ item.now ∷ [];
-      split = h.split ∙ ap (λ r. h.skipped ++ r) e ∙ sym (append_assoc h.skipped (item.now ∷ []) (items_left u));
-      passed = filter-append wanted h.skipped (item.now ∷ []) ∙ rw (h.passed, none) refl;
-      stays = λ d. absurd (cc (e, items_left_done t (ap (λ (v : ItemsState). v.is_done) (h.stays d) ∙ d)));
-    }
+PassesUnwanted-more wanted s t u item h f e at none = record {
+  text = f.text ∙ h.text;
+  separator = f.separator ∙ h.separator;
+  begins = λ opn. begins_next wanted s t u item h f e (gave_open t u item.now e) opn (at opn);
+  skipped = h.skipped ++ item.now ∷ [];
+  split = h.split ∙ ap (λ r. h.skipped ++ r) e ∙ sym (append_assoc h.skipped (item.now ∷ []) (items_left u));
+  passed = filter-append wanted h.skipped (item.now ∷ []) ∙ rw (h.passed, none) refl;
+  stays = λ d. absurd (cc (e, items_left_done t (ap (λ (v : ItemsState). v.is_done) (h.stays d) ∙ d)));
+}

@@ -1,12 +1,11 @@
 -- A step of an iterator over items.
-use Rattle.std.proofs.Common.{◌≡◌, ℕ, ◌+◌, ◌≤◌, true, false, List, [], ◌∷◌, length, drop, refl, sym, ◌∙◌, ap, arith}
-use Rattle.std.{proofs.Common.{Bool, Some, ⊎_elim}, specs.List.slice_range, proofs.lemmas.List.take_rest}
-use Rattle.headers_syntax.specs.Text.{is_text, trim}
-use Rattle.headers_items.{specs.Places.items_from, specs.ItemsState.{ItemsState, items_left, walk_over, NoCut}}
-use Rattle.headers_items.specs.ItemsState.{IsNextCut, GivesPiece, ScansPiece}
+use Rattle.headers_items.proofs.{ItemsLemmas.{items_last, items_next}, PlacesLemmas.hits-le-marks}
+use Rattle.headers_items.specs.ItemsState.{GivesPiece, IsNextCut, ItemsState, NoCut, ScansPiece, items_left, walk_over}
+use Rattle.headers_items.specs.{Places.{hits, items_from, marks}, ScanState.end_search}
+use Rattle.{headers_syntax.specs.Text.{is_text, trim}, std.proofs.Common.{Bool, List, Some, [], arith, drop, false}}
+use Rattle.std.proofs.{Common.{length, refl, true, ℕ, ⊎_elim, ◌+◌, ◌∷◌, ◌≡◌, ◌≤◌}, lemmas.Grind.common_steps}
+use Rattle.std.{proofs.lemmas.List.take_rest, specs.List.slice_range}
 use denote.Ref.{Bor}
-use Rattle.headers_items.{specs.Places.{hits, marks}, specs.ScanState.end_search, proofs.PlacesLemmas.hits-le-marks}
-use Rattle.headers_items.proofs.ItemsLemmas.{items_next, items_last}
 
 -- over a value that is no text
 pub walk_over-no_text : (sep : ℕ) (s : List ℕ) → is_text s ≡ false
@@ -24,19 +23,14 @@ items_left_done s h = rw h refl
 pub walk_more : (s t : ItemsState) (item : List ℕ) (q : ℕ) → s.is_done ≡ false
     → IsNextCut s.separator s.text s.start q → item ≡ trim (slice_range s.text s.start q) → t.is_done ≡ false
     → t.separator ≡ s.separator → t.text ≡ s.text → t.start ≡ q + 1 → items_left s ≡ item ∷ items_left t
-walk_more s t item q opn f e d a b p =
-    items_left_open s opn ∙ items_next s.separator s.text s.start q f
-    ∙ (let r : trim (slice_range s.text s.start q) ∷ items_from s.separator s.text (q + 1) ≡ item ∷ items_left t =
-    rw (items_left_open t d, e, a, b, p) refl in r)
+walk_more s t item q opn f e d a b p = grind (arith, common_steps, items_left_open, items_next)
 
 -- the last piece
 pub walk_last : (s t : ItemsState) (item : List ℕ) → s.is_done ≡ false → s.start ≤ length s.text
     → NoCut s.separator s.text s.start (length s.text) → item ≡ trim (slice_range s.text s.start (length s.text))
     → t.is_done ≡ true → items_left s ≡ item ∷ items_left t
 walk_last s t item opn l f e d =
-    items_left_open s opn ∙ items_last s.separator s.text s.start l f
-    ∙ (let r : trim (drop s.start s.text) ∷ [] ≡ item ∷ items_left t =
-    rw (items_left_done t d, e) (ap (λ x. trim x ∷ []) (sym (take_rest s.text s.start))) in r)
+    grind (arith, common_steps, items_left_open, items_last, drop, items_left_done, take_rest)
 
 -- a cut of equal texts from equal places
 pub IsNextCut-same : (sep sep' : ℕ) (s s' : List ℕ) (i i' q q' : ℕ) → IsNextCut sep s i q → sep' ≡ sep → s' ≡ s
@@ -68,11 +62,9 @@ piece_reaches sep s i item p g =
 
 pub walk_bound : (s t : ItemsState) (item : Bor (List ℕ)) → ScansPiece s (Some item) t
     → t.searches ≤ marks t.separator t.text + 1
-walk_bound s t item f =
-    searches_bound t.separator t.text t.place t.searches t.is_ended
+walk_bound s t item f = searches_bound t.separator t.text t.place t.searches t.is_ended
     (rw f.text (piece_reaches s.separator s.text s.start item.now t.place f.place)) f.searches
 
-pub state_bound : (s : ItemsState) (sep : ℕ) (text : List ℕ) (p n : ℕ) (e : Bool) → p ≤ length text
-    → n ≡ hits sep text p + end_search e → s.separator ≡ sep → s.text ≡ text → s.searches ≡ n
-    → s.searches ≤ marks s.separator s.text + 1
+pub state_bound : (s : ItemsState) (sep : ℕ) (text : List ℕ) (p n : ℕ) (e : Bool) → p ≤ length text → n ≡ hits sep text
+    p + end_search e → s.separator ≡ sep → s.text ≡ text → s.searches ≡ n → s.searches ≤ marks s.separator s.text + 1
 state_bound s sep text p n e l h a b d = rw (a, b, d) (searches_bound sep text p n e l h)

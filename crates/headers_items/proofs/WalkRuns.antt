@@ -1,8 +1,7 @@
 -- What the calls of an iterator yield, all together.
-use Rattle.std.{proofs.Common.{◌≡◌, List, Option, length, ap, subst}, specs.Iterator.Runs.{EveryRun, ItemsMapTo}}
-use Rattle.std.{proofs.iter.runs.Sources.from_front, proofs.lemmas.Iterator.YieldsList}
-use Rattle.std.proofs.lemmas.Iterator.Consumers.{YieldsList-from_shown}
-use Rattle.headers_items.specs.ItemsState.{ItemsState, Walks}
+use Rattle.{headers_items.specs.ItemsState.{ItemsState, Walks}, std.proofs.Common.{List, Option, ap, arith, length}}
+use Rattle.std.proofs.{Common.◌≡◌, iter.runs.Sources.from_front, lemmas.Iterator.YieldsList}
+use Rattle.std.{proofs.lemmas.Iterator.Consumers.YieldsList-from_shown, specs.Iterator.Runs.{EveryRun, ItemsMapTo}}
 
 module _ {A B : Type 0} {view : A → B} {rest : ItemsState → List B}
     {Scans : ItemsState → Option A → ItemsState → Type 0} where
@@ -13,6 +12,4 @@ module _ {A B : Type 0} {view : A → B} {rest : ItemsState → List B}
   -- an iterator yields what is left
   pub YieldsList-from_walk : {s : ItemsState} {all : List B} → rest s ≡ all
       → YieldsList (Walks view rest Scans) view s all
-  YieldsList-from_walk {s} e =
-      subst (YieldsList (Walks view rest Scans) view s) e
-      (YieldsList-from_shown (Walks view rest Scans) view rest (λ t u h. ap length h.gives.0) (λ t x u h. h.gives) s)
+  YieldsList-from_walk {s} e = grind (arith, YieldsList-from_shown)

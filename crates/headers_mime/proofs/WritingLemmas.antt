@@ -1,22 +1,16 @@
 -- What is written while a text is read.
-use Rattle.std.proofs.Common.{◌≡◌, ℕ, zero, suc, ◌<◌, ◌≤◌, List, [], ◌∷◌, ◌++◌, map, length, length-append, refl}
-use Rattle.std.{proofs.Common.{◌∙◌, ap, arith, Option, Some, None, append_assoc, append-nil}}
-use Rattle.std.{specs.{Prelude.option_map, Option.option_and_then}}
-use Rattle.std.{specs.Prelude.Err, specs.List.cons_option}
-use Rattle.headers_mime.specs.MediaType.{slash, Parameter, canonical_parameter, parameters_text}
-use Rattle.headers_mime.{specs.MediaTypeReading.{read_segment, read_segments}}
-use Rattle.headers_mime.specs.MediaTypeReading.{read_parameters, read_essence, read_media, canonical_of, canonical_rest}
-use Rattle.headers_mime.specs.MediaTypeReading.{optional_canonical, WritesBehind, GivesRead}
-use Rattle.headers_mime.proofs.ReadingLemmas.{segment-from_read}
-use Rattle.http_header.specs.Token.{lowercase}
-use Rattle.headers_syntax.{specs.declared.error.Refused.Refused, specs.declared.error.Refused.TheVariants.Invalid}
-use Rattle.headers_syntax.specs.declared.error.Refused.TheVariants.{Memory}
+use Rattle.headers_mime.{proofs.ReadingLemmas.segment-from_read, specs.MediaType.{Parameter, canonical_parameter}}
+use Rattle.headers_mime.specs.{MediaType.{parameters_text, slash}, MediaTypeReading.{GivesRead, WritesBehind}}
+use Rattle.headers_mime.specs.MediaTypeReading.{canonical_of, canonical_rest, optional_canonical, read_essence}
+use Rattle.headers_mime.specs.MediaTypeReading.{read_media, read_parameters, read_segment, read_segments}
+use Rattle.headers_syntax.specs.declared.error.Refused.{Refused, TheVariants.{Invalid, Memory}}
+use Rattle.{http_header.specs.Token.lowercase, std.proofs.Common.{List, None, Option, Some, [], ap, append-nil}}
+use Rattle.std.proofs.Common.{append_assoc, arith, length, length-append, map, refl, suc, zero, ℕ, ◌++◌, ◌<◌, ◌∙◌, ◌∷◌}
+use Rattle.std.{proofs.Common.{◌≡◌, ◌≤◌}, specs.{List.cons_option, Option.option_and_then, Prelude.{Err, option_map}}}
 
 -- a segment takes its semicolon at least
 pub segment-shrinks : (s : List ℕ) (t : Option Parameter × List ℕ) → read_segment s ≡ Some t → length t.1 < length s
-segment-shrinks s t h =
-    let read = segment-from_read s t h in
-    omega (arith, ap length read.text_is, length-append {A = ℕ})
+segment-shrinks s t h = grind (arith, segment-from_read s t h, length-append {A = ℕ})
 
 -- enough segments are as good as more
 then_same : {A B : Type 0} (f g : A → Option B) (o : Option A) → ((x : A) → o ≡ Some x → f x ≡ g x)
@@ -28,9 +22,7 @@ enough : (n m : ℕ) (s : List ℕ) → length s ≤ n → length s ≤ m → re
 enough n m [] a b = refl
 enough zero m (x ∷ s) a b = absurd (omega arith)
 enough (suc n) zero (x ∷ s) a b = absurd (omega arith)
-enough (suc n) (suc m) (x ∷ s) a b =
-    then_same _ _ (read_segment (x ∷ s))
-    (λ t e. let l = segment-shrinks (x ∷ s) t e in
+enough (suc n) (suc m) (x ∷ s) a b = then_same _ _ (read_segment (x ∷ s)) (λ t e. let l = segment-shrinks (x ∷ s) t e in
     ap (option_map (cons_option t.0)) (enough n m t.1 (omega (arith, l)) (omega (arith, l))))
 
 -- the end, and a text that is no segment
@@ -38,9 +30,8 @@ pub canonical_rest-none : (s : List ℕ) → 0 < length s → read_segment s ≡
 unfolding read_parameters
 canonical_rest-none s l e = grind arith
 
-optional_first : (o : Option Parameter) (ps : List Parameter)
-    → parameters_text (map canonical_parameter (cons_option o ps)) ≡ optional_canonical o ++ parameters_text
-    (map canonical_parameter ps)
+optional_first : (o : Option Parameter) (ps : List Parameter) → parameters_text
+    (map canonical_parameter (cons_option o ps)) ≡ optional_canonical o ++ parameters_text (map canonical_parameter ps)
 optional_first None ps = refl
 optional_first (Some p) ps = simp (append_assoc, append-nil)
 
@@ -55,8 +46,7 @@ pub canonical_rest-some : (s : List ℕ) (t : Option Parameter × List ℕ) → 
     → canonical_rest s ≡ option_map (λ (r : List ℕ). optional_canonical t.0 ++ r) (canonical_rest t.1)
 unfolding read_parameters
 canonical_rest-some [] t l e = absurd (omega arith)
-canonical_rest-some (b ∷ s) t l e =
-    let shorter = segment-shrinks (b ∷ s) t e in
+canonical_rest-some (b ∷ s) t l e = let shorter = segment-shrinks (b ∷ s) t e in
     let fuel = enough (length s) (length t.1) t.1 (omega (arith, shorter)) (omega arith) in
     rw (e, fuel) (simp (option_map-option_map, ← optional_first t.0))
 
@@ -65,18 +55,16 @@ unfolding read_media
 canonical_of-none s e = rw e refl
 
 -- type and subtype as they are pushed, and the rest after them
-pub canonical_of-pieces : (s top_level subtype rest none one two three : List ℕ)
-    → read_essence s ≡ Some (top_level, subtype, rest) → none ≡ [] → one ≡ none ++ lowercase top_level
-    → two ≡ one ++ slash ∷ [] → three ≡ two ++ lowercase subtype
-    → canonical_of s ≡ option_map (λ (t : List ℕ). three ++ t) (canonical_rest rest)
+pub canonical_of-pieces : (s top_level subtype rest none one two three : List ℕ) → read_essence s ≡ Some
+    (top_level, subtype, rest) → none ≡ [] → one ≡ none ++ lowercase top_level → two ≡ one ++ slash ∷ [] → three ≡ two
+    ++ lowercase subtype → canonical_of s ≡ option_map (λ (t : List ℕ). three ++ t) (canonical_rest rest)
 unfolding read_media
 canonical_of-pieces s top_level subtype rest none one two three h a b c d =
     rw (h, d, c, b, a) (simp (option_map-option_map, append_assoc))
 
 -- a loop that is done: nothing was read, or all
-pub none_behind : (old new : List ℕ) (whole rest : Option (List ℕ))
-    → option_map (λ (t : List ℕ). old ++ t) whole ≡ option_map (λ (t : List ℕ). new ++ t) rest → rest ≡ None → whole
-    ≡ None
+pub none_behind : (old new : List ℕ) (whole rest : Option (List ℕ)) → option_map (λ (t : List ℕ). old ++ t) whole
+    ≡ option_map (λ (t : List ℕ). new ++ t) rest → rest ≡ None → whole ≡ None
 none_behind old new whole rest e none = grind arith
 
 pub canonical_rest-end : (s new : List ℕ) → length s ≡ 0
@@ -86,8 +74,7 @@ canonical_rest-end s new e = grind (arith, append-nil {A = ℕ})
 
 -- a refusal of a writer is one of its reader
 pub refused_behind : {T E : Type 0} (shown : T → List ℕ) (old new : List ℕ) (whole rest : Option (List ℕ))
-    (refused : Refused E)
-    → whole ≡ option_map (λ (t : List ℕ). old ++ t) rest → WritesBehind old rest new (Err refused) → GivesRead shown
-    whole (Err refused)
+    (refused : Refused E) → whole ≡ option_map (λ (t : List ℕ). old ++ t) rest → WritesBehind old rest new (Err refused)
+    → GivesRead shown whole (Err refused)
 refused_behind shown old new whole rest (Invalid x) e none = e ∙ ap (option_map (λ (t : List ℕ). old ++ t)) none
 refused_behind shown old new whole rest (Memory x) e none = tt

@@ -1,16 +1,13 @@
 -- What `parse` reads of a line is its number, and a printed number is read back.
-use Rattle.std.proofs.Common.{if◌then◌else◌, ◌≡◌, ℕ, ◌<◌, ◌≤◌, ◌≢◌, ◌^◌, true, false, [], ◌∷◌, length, Some, None}
-use Rattle.std.proofs.Common.{Result, Ok, Err, refl, sym, ap, subst, inl, inr, arith, rules}
-use Rattle.std.{proofs.Common.{get_or, ◌==◌}, specs.Str.all_ascii_digits, specs.Str.Parse.ParsesUnsigned}
-use Rattle.std.{specs.Result.{OkIff, result_ok}, proofs.lemmas.Str.Parse.{IsNumeralModel, numerals_by_weight}}
-use Rattle.std.proofs.lemmas.Str.Parse.{tells_all_ascii_digits, parse_plain, parse_plus, not_in_digits}
-use Rattle.std.{proofs.lemmas.Fmt.{digits_decimal, digits_value-decimal, decimal_nonempty}, specs.Fmt.decimal}
-use Rattle.std.proofs.lemmas.Bool.{cases_Bool, and_parts}
-use Rattle.std.proofs.lemmas.Bool.Decides.{nat_tests}
-use Rattle.std.{proofs.lemmas.Bool.{false_from_ne_true, eqb-true, eqb-false}, specs.Char.is_ascii_digit}
-use Rattle.std.proofs.lemmas.List.Elements.{All-cons}
-use Rattle.http_header.{specs.Token.is_visible_or_blank, specs.FieldValue.IsVisibleAscii}
-use Rattle.headers_syntax.{specs.Lines.Line, specs.Number.{after_plus, decimal_value, is_numeral, number}}
+use Rattle.headers_syntax.specs.{Lines.Line, Number.{after_plus, decimal_value, is_numeral, number}}
+use Rattle.{http_header.specs.{FieldValue.IsVisibleAscii, Token.is_visible_or_blank}, std.proofs.Common.{Err, None, Ok}}
+use Rattle.std.proofs.Common.{Result, Some, [], ap, arith, false, get_or, if◌then◌else◌, inl, inr, length, refl, rules}
+use Rattle.std.proofs.{Common.{subst, sym, true, ℕ, ◌<◌, ◌==◌, ◌^◌, ◌∷◌, ◌≡◌, ◌≢◌, ◌≤◌}, lemmas.Bool.and_parts}
+use Rattle.std.proofs.lemmas.Bool.{cases_Bool, eqb-false, eqb-true, false_from_ne_true, Decides.nat_tests}
+use Rattle.std.proofs.lemmas.{Fmt.{decimal_nonempty, digits_decimal, digits_value-decimal}, Grind.common_steps}
+use Rattle.std.proofs.lemmas.{List.Elements.All-cons, Str.Parse.{IsNumeralModel, not_in_digits, numerals_by_weight}}
+use Rattle.std.{proofs.lemmas.Str.Parse.{parse_plain, parse_plus, tells_all_ascii_digits}, specs.Char.is_ascii_digit}
+use Rattle.std.specs.{Fmt.decimal, Result.{OkIff, result_ok}, Str.{all_ascii_digits, Parse.ParsesUnsigned}}
 
 own : IsNumeralModel (λ ds. all_ascii_digits ds ≡ true) decimal_value
 own = numerals_by_weight _ tells_all_ascii_digits decimal_value (search rules)
@@ -30,17 +27,11 @@ is_numeral-false d h = false_from_ne_true (is_numeral d) (λ e. h (is_numeral-pa
 
 parse_after_plus : {E : Type 0} (line : Line) (r : Result ℕ E) → ParsesUnsigned 64 10 line r
     → OkIff r (IsNumeral64 (after_plus line)) (decimal_value (after_plus line))
-parse_after_plus [] r h = parse_plain own 64 [] r h (λ e. omega (arith, e))
-parse_after_plus (c ∷ cs) r h =
-    elim (cases_Bool (c == 43)) [
-      | inl t ↦ rw t (parse_plus own 64 (c ∷ cs) r h (eqb-true _ _ t))
-      | inr f ↦ rw f (parse_plain own 64 (c ∷ cs) r h (eqb-false _ _ f))
-    ]
+parse_after_plus x1 r h = grind (arith, parse_plain, own, parse_plus, eqb-false)
 
 pub number-parse : {E : Type 0} (line : Line) (r : Result ℕ E) → ParsesUnsigned 64 10 line r → number line ≡ result_ok r
 unfolding number
-number-parse {E} line (Ok n) h =
-    let p = parse_after_plus {E = E} line (Ok n) h in
+number-parse {E} line (Ok n) h = let p = parse_after_plus {E = E} line (Ok n) h in
     rw (is_numeral-true (after_plus line) p.0) (ap (λ (m : ℕ). Some m) (sym p.1))
 number-parse {E} line (Err e) h = rw (is_numeral-false (after_plus line) (parse_after_plus {E = E} line (Err e) h))
 
@@ -57,9 +48,7 @@ after_plus-same (c ∷ cs) h = elim (cases_Bool (c == 43)) [ inl t ↦ absurd (h
 
 pub number-decimal : (n : ℕ) → n < 2 ^ 64 → number (decimal n) ≡ Some n
 unfolding number
-number-decimal n h =
-    let digits = digits_decimal own n h in
-    let some = decimal_nonempty n h in
+number-decimal n h = let digits = digits_decimal own n h in let some = decimal_nonempty n h in
     let value = digits_value-decimal own n h in
     let bare = after_plus-same (decimal n) (not_in_digits own (decimal n) 43 digits (λ r. omega (arith, r)) 0 some) in
     rw (bare, is_numeral-true (decimal n) (digits, some, subst (λ (m : ℕ). m < 2 ^ 64) (sym value) h), value)
@@ -73,28 +62,18 @@ visible c low high = grind (arith, nat_tests)
 
 digits_visible : (ds : Line) → all_ascii_digits ds ≡ true → IsVisibleAscii ds
 digits_visible [] e = λ k d h. absurd (omega (arith, h))
-digits_visible (c ∷ cs) e =
-    let p = and_parts (is_ascii_digit c) (all_ascii_digits cs) e in
-    let here : is_visible_or_blank c ≡ true = grind (arith, nat_tests) in
-    All-cons (λ b. is_visible_or_blank b ≡ true) c cs here (digits_visible cs p.1)
+digits_visible (c ∷ cs) e = let p = and_parts (is_ascii_digit c) (all_ascii_digits cs) e in
+    grind (arith, All-cons, digits_visible cs p.1)
 
 visible_from_digits : (line : Line) → all_ascii_digits (after_plus line) ≡ true → IsVisibleAscii line
 visible_from_digits [] e = digits_visible [] refl
-visible_from_digits (c ∷ cs) e =
-    elim (cases_Bool (c == 43)) [
-      | inl t ↦ let plus : c ≡ 43 = eqb-true _ _ t in
-          All-cons (λ b. is_visible_or_blank b ≡ true) c cs (visible c (omega arith) (omega arith))
-          (digits_visible cs (rw t at e))
-      | inr f ↦ digits_visible (c ∷ cs) (rw f at e)
-    ]
+visible_from_digits (c ∷ cs) e = grind (arith, common_steps, All-cons, visible, digits_visible)
 
 -- a value that is not visible ASCII writes no number
 pub number-none : (line : Line) → ¬ (IsVisibleAscii line) → number line ≡ None
 unfolding number
-number-none line h =
-    rw (is_numeral-false (after_plus line) (λ n. h (visible_from_digits line n.0)))
+number-none line h = rw (is_numeral-false (after_plus line) (λ n. h (visible_from_digits line n.0)))
 
 pub number-no_digits : (line : Line) → all_ascii_digits (after_plus line) ≡ false → number line ≡ None
 unfolding number
-number-no_digits line h =
-    rw (is_numeral-false (after_plus line) (λ n. cc (n.0, h)))
+number-no_digits line h = rw (is_numeral-false (after_plus line) (λ n. cc (n.0, h)))

@@ -1,11 +1,10 @@
 -- How `OfLines` is built call by call, and what a caller reads of it.
-use Rattle.std.proofs.Common.{◌≡◌, Bool, true, false, IsTrue, List, [], ◌∷◌, ◌++◌, map, Option, Some, None}
-use Rattle.std.{proofs.Common.{refl, sym, ◌∙◌, ap, subst}, specs.Iterator.{Yields, YieldsThen, YieldsFirstBy}}
-use Rattle.std.{specs.Slice.Iter.{iter_rest, iter_steps}, specs.declared.slice.Iter.Iter}
+use Rattle.{headers_syntax.specs.{Lines.{Line, lines_of}, OfLines.OfLines}, http_header.specs.FieldValue.FieldValue}
+use Rattle.std.proofs.Common.{Bool, IsTrue, List, None, Option, Some, [], ap, arith, false, map, refl, subst, sym, true}
+use Rattle.std.proofs.{Common.{◌++◌, ◌∷◌, ◌≡◌}, lemmas.{Grind.common_steps, List.{append_assoc, map-append}}}
+use Rattle.std.{proofs.lemmas.List.nil_from_length, specs.{Bool.MatchBool, Iterator.{Yields, YieldsFirstBy}}}
+use Rattle.std.specs.{Iterator.YieldsThen, Slice.Iter.{iter_rest, iter_steps}, declared.slice.Iter.Iter}
 use denote.Ref.{Bor}
-use Rattle.std.{proofs.lemmas.List.{append-nil, append_assoc, map-append, nil_from_length}, specs.Bool.MatchBool}
-use Rattle.http_header.specs.FieldValue.{FieldValue}
-use Rattle.headers_syntax.{specs.Lines.{Line, lines_of}, specs.OfLines.OfLines}
 
 module _ {S A : Type 0} (shown : A → FieldValue) (steps : S → Option A → S → Type 0) where
   -- no call was made
@@ -23,26 +22,20 @@ module _ {S A : Type 0} (shown : A → FieldValue) (steps : S → Option A → S
   OfLines-some s j t x P call g = by g.ended g.calls g.holds
     where
       by : (ended : Bool) → MatchBool ended (YieldsThen steps j g.items None t) (Yields steps j g.items t)
-          → ((rest : List Line) → (IsTrue ended → rest ≡ [])
-          → P ((shown x).bytes ∷ (map (λ item. (shown item).bytes) g.items ++ rest)))
-          → OfLines shown steps s t P
+          → ((rest : List Line) → (IsTrue ended → rest ≡ []) → P
+          ((shown x).bytes ∷ (map (λ item. (shown item).bytes) g.items ++ rest))) → OfLines shown steps s t P
       by true calls holds =
           record { items = x ∷ g.items; ended = true; calls = (calls.0, (j, call, calls.1), calls.2); holds = holds }
-      by false calls holds =
-          record { items = x ∷ g.items; ended = false; calls = (j, call, calls); holds = holds }
+      by false calls holds = record { items = x ∷ g.items; ended = false; calls = (j, call, calls); holds = holds }
 
   pub OfLines-weaker : (s t : S) (P Q : List Line → Type 0) → OfLines shown steps s t P
       → ((lines : List Line) → P lines → Q lines) → OfLines shown steps s t Q
-  OfLines-weaker s t P Q g weaker =
-      record { items = g.items; ended = g.ended; calls = g.calls; holds = λ rest e. weaker _ (g.holds rest e) }
+  OfLines-weaker s t P Q g weaker = grind arith
 
   -- one call was made, and P ties its answer to the lines
-  pub OfLines-next : (P : Option A → List Line → Type 0) → P None []
-      → ((x : A) (lines : List Line) → P (Some x) ((shown x).bytes ∷ lines))
-      → (s t : S) (r : Option A) → steps s r t → OfLines shown steps s t (P r)
-  OfLines-next P none some s t None call = OfLines-none s t (P None) call none
-  OfLines-next P none some s t (Some x) call =
-      OfLines-some s t t x (P (Some x)) call (OfLines-stop t (λ lines. P (Some x) ((shown x).bytes ∷ lines)) (some x))
+  pub OfLines-next : (P : Option A → List Line → Type 0) → P None [] → ((x : A) (lines : List Line) → P (Some x)
+      ((shown x).bytes ∷ lines)) → (s t : S) (r : Option A) → steps s r t → OfLines shown steps s t (P r)
+  OfLines-next x1 none some s t x6 call = grind (arith, OfLines-none, OfLines-some, OfLines-stop)
 
   -- a call more
   yields_more : (s t u : S) (items : List A) (x : A) → Yields steps s items t → steps t (Some x) u
@@ -61,26 +54,12 @@ module _ {S A : Type 0} (shown : A → FieldValue) (steps : S → Option A → S
 
   pub OfLinesSoFar-more : (s t u : S) (x : A) (P Q : List Line → Type 0) → OfLinesSoFar s t P → steps t (Some x) u
       → ((lines : List Line) → P lines → Q (lines ++ (shown x).bytes ∷ [])) → OfLinesSoFar s u Q
-  OfLinesSoFar-more s t u x P Q so_far call more =
-      record {
-        items = so_far.items ++ x ∷ [];
-        calls = yields_more s t u so_far.items x so_far.calls call;
-        holds = subst Q (sym (map-append (λ (item : A). (shown item).bytes) so_far.items (x ∷ [])))
-            (more _ so_far.holds);
-      }
+  OfLinesSoFar-more s t u x P Q so_far call more = grind (arith, common_steps, yields_more, map-append)
 
   -- the last call gave `None`
   pub OfLines-ended : (s t u : S) (P Q : List Line → Type 0) → OfLinesSoFar s t P → steps t None u
       → ((lines : List Line) → P lines → Q lines) → OfLines shown steps s u Q
-  OfLines-ended s t u P Q so_far call h =
-      record {
-        items = so_far.items;
-        ended = true;
-        calls = (t, so_far.calls, call);
-        holds = λ rest e. subst Q (sym (append-nil _)
-            ∙ ap (λ (r : List Line). map (λ item. (shown item).bytes) so_far.items ++ r) (sym (e refl)))
-            (h _ so_far.holds);
-      }
+  OfLines-ended s t u P Q so_far call h = grind (arith, common_steps, map)
 
   -- the last call gave an item, and no other was made
   pub OfLines-stopped : (s t u : S) (x : A) (P Q : List Line → Type 0) → OfLinesSoFar s t P → steps t (Some x) u
@@ -96,9 +75,7 @@ module _ {S A : Type 0} (shown : A → FieldValue) (steps : S → Option A → S
     left_after : (s t : S) (items : List A) → Yields steps s items t
         → lines_of (rest s) ≡ map (λ item. (shown item).bytes) items ++ lines_of (rest t)
     left_after s t [] e = ap (λ (j : S). lines_of (rest j)) e
-    left_after s t (x ∷ items) calls =
-        ap lines_of (shows s (Some x) calls.0 calls.1)
-        ∙ ap (λ (ls : List Line). (shown x).bytes ∷ ls) (left_after calls.0 t items calls.2)
+    left_after s t (x ∷ items) calls = grind (arith, left_after calls.0 t items calls.2)
 
     -- its list of lines is known, so P holds of it
     pub OfLines-all : (s t : S) (P : List Line → Type 0) → OfLines shown steps s t P → P (lines_of (rest s))
@@ -107,8 +84,7 @@ module _ {S A : Type 0} (shown : A → FieldValue) (steps : S → Option A → S
         by : (ended : Bool) → MatchBool ended (YieldsThen steps s g.items None t) (Yields steps s g.items t)
             → ((more : List Line) → (IsTrue ended → more ≡ []) → P (map (λ item. (shown item).bytes) g.items ++ more))
             → P (lines_of (rest s))
-        by true calls holds =
-            let none = (shows calls.0 None t calls.2).0 in
+        by true calls holds = let none = (shows calls.0 None t calls.2).0 in
             subst P (sym (left_after s calls.0 g.items calls.1))
             (holds (lines_of (rest calls.0)) (λ _. ap lines_of none))
         by false calls holds =
@@ -121,10 +97,7 @@ shown_value item = item.now
 -- the iterator of a slice shows what is left
 slice_shows : (s : Iter FieldValue) (r : Option (Bor FieldValue)) (t : Iter FieldValue) → iter_steps s r t
     → YieldsFirstBy shown_value iter_rest s r t
-slice_shows s None t call =
-    let none = nil_from_length (iter_rest s) call.0 in
-    (none, ap (λ (it : Iter FieldValue). iter_rest it) call.1 ∙ none)
-slice_shows s (Some x) t call = call
+slice_shows s x2 t call = grind (arith, common_steps, nil_from_length)
 
 -- so what a call over a slice's iterator was given holds of the slice
 pub OfLines-slice : (s t : Iter FieldValue) (P : List Line → Type 0) → OfLines shown_value iter_steps s t P

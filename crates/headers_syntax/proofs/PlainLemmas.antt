@@ -1,15 +1,12 @@
 -- Pieces of visible bytes above the quote without a comma: trimming and taking off quotes leaves them, and decimals
 -- are such.
-use Rattle.std.proofs.Common.{◌≡◌, ◌≢◌, ℕ, ◌^◌, ◌-◌, ◌<◌, Bool, true, false, not, ◌&&◌, ◌==◌, nat_lt, List}
-use Rattle.std.{proofs.Common.{[], ◌∷◌, length, get_or, refl, arith}, specs.List.list_all}
-use Rattle.std.{specs.List.{prefix_len}}
-use Rattle.std.proofs.lemmas.Bool.Decides.{nat_tests}
-use Rattle.std.proofs.lemmas.List.Sums.{AllPass-from_list_all, prefix_len_is}
-use Rattle.std.{specs.Str.all_ascii_digits, specs.Char.is_ascii_digit, specs.Fmt.decimal}
-use Rattle.std.{proofs.lemmas.Str.Parse.{numerals_by_value, tells_all_ascii_digits}, proofs.lemmas.Fmt.digits_decimal}
-use Rattle.http_header.specs.Token.{is_visible_or_blank}
-use Rattle.headers_syntax.proofs.StripLemmas.{strip_front, strip_end, strip_end-none}
-use Rattle.headers_syntax.specs.Text.{is_blank, is_quote, is_text, trim, without_quotes}
+use Rattle.headers_syntax.{proofs.StripLemmas.{strip_end, strip_end-none, strip_front}, specs.Text.{is_blank, is_quote}}
+use Rattle.{headers_syntax.specs.Text.{is_text, trim, without_quotes}, http_header.specs.Token.is_visible_or_blank}
+use Rattle.std.proofs.Common.{Bool, List, [], arith, false, get_or, length, nat_lt, not, refl, true, ℕ, ◌&&◌, ◌-◌, ◌<◌}
+use Rattle.std.proofs.{Common.{◌==◌, ◌^◌, ◌∷◌, ◌≡◌, ◌≢◌}, lemmas.{Bool.Decides.nat_tests, Fmt.digits_decimal}}
+use Rattle.std.proofs.lemmas.{List.Sums.{AllPass-from_list_all, prefix_len_is}, Str.Parse.numerals_by_value}
+use Rattle.std.{proofs.lemmas.Str.Parse.tells_all_ascii_digits, specs.{Char.is_ascii_digit, Fmt.decimal, List.list_all}}
+use Rattle.std.specs.{List.prefix_len, Str.all_ascii_digits}
 
 -- a visible byte above the quote that is no comma
 abbrev pub is_plain : ℕ → Bool
@@ -29,13 +26,10 @@ piece_at p h k l = plain_bounds (get_or p k 0) (AllPass-from_list_all is_plain p
 -- a test that fails at such bytes strips none
 strip_kept : (test : ℕ → Bool) → ((b : ℕ) → 34 < b → test b ≡ false) → (p : List ℕ) → list_all is_plain p ≡ true
     → strip_end test (strip_front test p) ≡ p
-strip_kept test fails p h =
-    let none : prefix_len test p ≡ 0 =
-    prefix_len_is test p 0 0 (omega arith) (λ k l. absurd (omega arith))
-    (λ l. fails (get_or p 0 0) (piece_at p h 0 l).0) in
+strip_kept test fails p h = let none : prefix_len test p ≡ 0 = prefix_len_is test p 0 0 (omega arith)
+    (λ k l. absurd (omega arith)) (λ l. fails (get_or p 0 0) (piece_at p h 0 l).0) in
     let last = strip_end-none test p
-    (λ l. fails (get_or p (length p - 1) 0) (piece_at p h (length p - 1) (omega arith)).0) in
-    rw none last
+    (λ l. fails (get_or p (length p - 1) 0) (piece_at p h (length p - 1) (omega arith)).0) in rw none last
 
 pub no_quote : (b : ℕ) → 34 < b → is_quote b ≡ false
 no_quote b l = grind (arith, nat_tests)

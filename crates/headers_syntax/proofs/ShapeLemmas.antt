@@ -1,14 +1,12 @@
 -- The laws of the grammars that many headers share.
-use Rattle.std.proofs.Common.{◌≡◌, ℕ, Bool, List, [], ◌∷◌, Option, Some, refl, arith}
-use Rattle.std.{proofs.lemmas.Slice.Eq.bytes_eq-Decides}
-use Rattle.std.specs.Prelude.{decimal}
-use Rattle.headers_syntax.{specs.Date.{date, fixdate}, specs.Lines.{Line, first_line, only_line, some_lines}}
-use Rattle.headers_syntax.{specs.Number.number, specs.EntityTag.is_tag, specs.Text.is_text, specs.HeaderLaws.HeaderLaws}
-use Rattle.headers_syntax.{specs.HeaderLaws.{SameBy, ReadsBy, written_by, ReadsBack, laws_by}, specs.Shapes.line_if}
-use Rattle.headers_syntax.specs.Shapes.{text_line, word_line, one_line, first_kept, only_number, only_text, only_word}
-use Rattle.headers_syntax.specs.Shapes.{first_word, all_kept, only_date, tag_line, only_tag}
-use Rattle.headers_syntax.{proofs.DateLemmas.date_back, proofs.NumberLemmas.{number-decimal, number-lt}}
-use Rattle.headers_syntax.proofs.OptionLemmas.{then_parts}
+use Rattle.headers_syntax.proofs.{DateLemmas.date_back, NumberLemmas.{number-decimal, number-lt}}
+use Rattle.headers_syntax.{proofs.OptionLemmas.then_parts, specs.{Date.{date, fixdate}, EntityTag.is_tag}}
+use Rattle.headers_syntax.specs.{HeaderLaws.{HeaderLaws, ReadsBack, ReadsBy, SameBy, laws_by, written_by}, Lines.Line}
+use Rattle.headers_syntax.specs.{Lines.{only_line, some_lines}, Number.number, Shapes.{all_kept, first_kept}}
+use Rattle.headers_syntax.specs.Shapes.{first_word, line_if, one_line, only_date, only_number, only_tag, only_text}
+use Rattle.headers_syntax.specs.{Shapes.{only_word, tag_line, text_line, word_line}, Text.is_text}
+use Rattle.std.proofs.{Common.{Bool, List, Option, Some, [], arith, refl, ℕ, ◌∷◌, ◌≡◌}, lemmas.Grind.common_steps}
+use Rattle.std.{proofs.lemmas.Slice.Eq.bytes_eq-Decides, specs.Prelude.decimal}
 
 -- what is written of a value that a line reads, reads as that value
 abbrev pub ReadsBackLine : {A : Type 0} → (Line → Option A) → (A → Line) → Type 0
@@ -38,15 +36,12 @@ module _ {V A : Type 0} where
   pub one_line_back : (kept : V → A) (pick : List Line → Option Line) (read : Line → Option A) (write : A → Line)
       → ((line : Line) → pick (line ∷ []) ≡ Some line) → ReadsBackLine read write
       → ReadsBack (one_line kept pick read write)
-  one_line_back kept pick read write single back lines a h =
-      let l = then_parts read (pick lines) a h in rw (single (write a)) (back l.0 a l.2)
+  one_line_back kept pick read write single back lines a h = grind (arith, common_steps, then_parts)
 
   pub one_line_laws : (kept : V → A) (pick : List Line → Option Line) (read : Line → Option A) (write : A → Line)
-      → ((line : Line) → pick (line ∷ []) ≡ Some line) → ReadsBackLine read write
-      → HeaderLaws (SameBy (one_line kept pick read write)) (ReadsBy (one_line kept pick read write))
-      (written_by (one_line kept pick read write))
-  one_line_laws kept pick read write single back =
-      laws_by (one_line kept pick read write) (one_line_back kept pick read write single back)
+      → ((line : Line) → pick (line ∷ []) ≡ Some line) → ReadsBackLine read write → HeaderLaws (SameBy (one_line kept
+      pick read write)) (ReadsBy (one_line kept pick read write)) (written_by (one_line kept pick read write))
+  one_line_laws kept pick read write single back = grind (arith, common_steps, laws_by, one_line, one_line_back)
 
 module _ {V : Type 0} where
   pub first_kept_back : (kept : V → Line) → ReadsBack (first_kept kept)
@@ -66,13 +61,11 @@ module _ {V : Type 0} where
 
   pub only_word_laws : (word : Line) (kept : V → Line)
       → HeaderLaws (SameBy (only_word word kept)) (ReadsBy (only_word word kept)) (written_by (only_word word kept))
-  only_word_laws word kept =
-      one_line_laws kept only_line (word_line word) (λ line. line) (λ line. refl) (word_back word)
+  only_word_laws word kept = grind (arith, word_back word, one_line_laws)
 
   pub first_word_laws : (word : Line) (kept : V → Line)
       → HeaderLaws (SameBy (first_word word kept)) (ReadsBy (first_word word kept)) (written_by (first_word word kept))
-  first_word_laws word kept =
-      one_line_laws kept first_line (word_line word) (λ line. line) (λ line. refl) (word_back word)
+  first_word_laws word kept = grind (arith, word_back word, one_line_laws)
 
   pub all_kept_laws : (kept : V → List Line)
       → HeaderLaws (SameBy (all_kept kept)) (ReadsBy (all_kept kept)) (written_by (all_kept kept))

@@ -1,16 +1,13 @@
 -- What `trim_start_matches` and `trim_end_matches` leave of a text, where the characters that go are ASCII.
-use Rattle.std.proofs.Common.{◌≡◌, ℕ, suc, ◌+◌, ◌-◌, ◌<◌, Bool, true, false, List, [], ◌∷◌, ◌++◌, length, take, drop}
-use Rattle.std.proofs.Common.{get_or, Option, Some, None, IfSome, refl, sym, ◌∙◌, ap, arith, inl, inr, take-append-drop}
-use Rattle.std.{proofs.Common.{length-append}, specs.List.{prefix_len, suffix_len}}
-use Rattle.std.{specs.Char.char_set_contains}
-use Rattle.std.proofs.lemmas.Bool.Decides.{nat_tests}
-use Rattle.headers_syntax.specs.Text.{is_blank, is_quote}
+use Rattle.{headers_syntax.specs.Text.{is_blank, is_quote}, std.proofs.Common.{Bool, IfSome, List, None, Option, Some}}
+use Rattle.std.proofs.Common.{[], ap, arith, drop, false, get_or, inl, inr, length, length-append, refl, suc, sym, take}
+use Rattle.std.proofs.{Common.{take-append-drop, true, ℕ, ◌++◌, ◌+◌, ◌-◌, ◌<◌, ◌∙◌, ◌∷◌, ◌≡◌}, lemmas.Bool.cases_Bool}
+use Rattle.std.proofs.lemmas.{Bool.Decides.nat_tests, Grind.common_steps, List.{drop_all, length-drop, length-take}}
+use Rattle.std.proofs.lemmas.List.{reverse-append, take-append-le, take_all, take_more, Sums.suffix_len_is}
+use Rattle.std.{proofs.lemmas.Str.{encode_ascii, Pattern.drop_at_char}, specs.{Char.char_set_contains, List.prefix_len}}
+use Rattle.std.specs.{List.suffix_len, Str.Pattern.{CutsPrefixes, CutsSuffixes, FindsPrefixBy, FindsSuffixBy}}
+use Rattle.std.specs.Str.Pattern.{IsTrimEndMatches, IsTrimStartMatches}
 use lib.Utf8.{low_scalar}
-use Rattle.std.specs.Str.Pattern.{FindsPrefixBy, FindsSuffixBy, IsTrimStartMatches, IsTrimEndMatches, CutsPrefixes}
-use Rattle.std.{specs.Str.Pattern.CutsSuffixes, proofs.lemmas.Bool.cases_Bool, proofs.lemmas.List.reverse-append}
-use Rattle.std.proofs.lemmas.List.{take-append-le, drop_all, take_all, take_more, length-drop, length-take}
-use Rattle.std.{proofs.lemmas.List.Sums.suffix_len_is, proofs.lemmas.Str.encode_ascii}
-use Rattle.std.proofs.lemmas.Str.Pattern.{drop_at_char}
 
 -- the test holds of ASCII alone
 abbrev pub OnAscii : (ℕ → Bool) → Type 0
@@ -24,39 +21,23 @@ abbrev pub strip_end : (ℕ → Bool) → List ℕ → List ℕ
 strip_end test s = take (length s - suffix_len test s) s
 
 front_step : (test : ℕ → Bool) (b : ℕ) (t : List ℕ) → test b ≡ true → strip_front test (b ∷ t) ≡ strip_front test t
-front_step test b t h =
-    let e : 1 + prefix_len test t ≡ suc (prefix_len test t) = omega arith in rw (h, e) refl
+front_step test b t h = let e : 1 + prefix_len test t ≡ suc (prefix_len test t) = omega arith in rw (h, e) refl
 
 end_length : (test : ℕ → Bool) (t : List ℕ) (b : ℕ) → test b ≡ true
     → suffix_len test (t ++ b ∷ []) ≡ 1 + suffix_len test t
 end_length test t b h = rw (reverse-append t (b ∷ []), h) refl
 
 end_step : (test : ℕ → Bool) (t : List ℕ) (b : ℕ) → test b ≡ true → strip_end test (t ++ b ∷ []) ≡ strip_end test t
-end_step test t b h =
-    let long = length-append t (b ∷ []) in
-    let less = end_length test t b h in
-    let n : length (t ++ b ∷ []) - suffix_len test (t ++ b ∷ []) ≡ length t - suffix_len test t = omega arith in
-    ap (λ k. take k (t ++ b ∷ [])) n ∙ take-append-le (length t - suffix_len test t) t (b ∷ []) (omega arith)
+end_step test t b h = grind (arith, common_steps, length-append, end_length, take, take-append-le)
 
 -- a character at the front of a text is its first byte, and one at the end its last
 cut_first : (test : ℕ → Bool) → OnAscii test → (s : List ℕ) (n : ℕ) → FindsPrefixBy test s (Some n) → (b : ℕ)
     × (t : List ℕ) × (s ≡ b ∷ t) × (test b ≡ true) × (drop n s ≡ t)
-cut_first test ascii s n h =
-    let small = ascii h.0 h.1 in (h.0, drop n s, drop_at_char h.0 s 0 n h.2 small, h.1, refl)
+cut_first test ascii s n h = let small = ascii h.0 h.1 in (h.0, drop n s, drop_at_char h.0 s 0 n h.2 small, h.1, refl)
 
 cut_last : (test : ℕ → Bool) → OnAscii test → (s : List ℕ) (n : ℕ) → FindsSuffixBy test s (Some n) → (b : ℕ)
     × (t : List ℕ) × (s ≡ t ++ b ∷ []) × (test b ≡ true) × (take (length s - n) s ≡ t)
-cut_last test ascii s n h =
-    let small = ascii h.0 h.1 in
-    let here = drop_at_char h.0 s (length s - n) (length s) h.2 small in
-    let none : drop (length s) s ≡ [] = drop_all (length s) s (omega arith) in (
-      h.0,
-      take (length s - n) s,
-      sym (take-append-drop (length s - n) s)
-          ∙ ap (λ r. take (length s - n) s ++ r) (here ∙ ap (λ r. h.0 ∷ r) none),
-      h.1,
-      refl,
-    )
+cut_last test ascii s n h = grind (arith, common_steps, drop_at_char, drop, drop_all, take, take-append-drop)
 
 -- where no such character is left, nothing goes
 passes_none : (test : ℕ → Bool) → OnAscii test → (b : ℕ) → (b < 128 → test b ≡ false) → test b ≡ false
@@ -64,67 +45,38 @@ passes_none test ascii b none = elim (cases_Bool (test b)) [ inl y ↦ none (asc
 
 none_first : (test : ℕ → Bool) → OnAscii test → (s : List ℕ) → FindsPrefixBy test s None → strip_front test s ≡ s
 none_first test ascii [] h = refl
-none_first test ascii (b ∷ t) h =
-    let no = passes_none test ascii b
-    (λ small. h b t (low_scalar b (omega arith)) (ap (λ r. r ++ t) (sym (encode_ascii b small)))) in
-    rw no refl
+none_first test ascii (b ∷ t) h = let no = passes_none test ascii b
+    (λ small. h b t (low_scalar b (omega arith)) (ap (λ r. r ++ t) (sym (encode_ascii b small)))) in rw no refl
 
 pub strip_end-none : (test : ℕ → Bool) (s : List ℕ) → (0 < length s → test (get_or s (length s - 1) 0) ≡ false)
     → strip_end test s ≡ s
-strip_end-none test s last =
-    let none : suffix_len test s ≡ length s - length s =
-    suffix_len_is test s (length s) 0 (omega arith) (λ k a b. absurd (omega arith)) last in
-    rw none (take_all (length s - (length s - length s)) s (omega arith))
+strip_end-none test s last = grind (arith, common_steps, suffix_len_is, take_all)
 
 none_last : (test : ℕ → Bool) → OnAscii test → (s : List ℕ) → FindsSuffixBy test s None → strip_end test s ≡ s
-none_last test ascii s h =
-    let front = take (length s - 1) s in
-    let b = get_or s (length s - 1) 0 in
-    strip_end-none test s
-    (λ some.
-    let n : (length s - 1) + 1 ≡ length s = omega arith in
-    let split : s ≡ front ++ b ∷ [] = sym (take_all (length s) s (omega arith))
-    ∙ ap (λ k. take k s) (sym n) ∙ take_more s (length s - 1) 0 (omega arith) in
-    passes_none test ascii b
+none_last test ascii s h = let front = take (length s - 1) s in let b = get_or s (length s - 1) 0 in
+    strip_end-none test s (λ some. let n : (length s - 1) + 1 ≡ length s = omega arith in let split : s ≡ front ++ b
+    ∷ [] = grind (arith, common_steps, take_all, take, take_more) in passes_none test ascii b
     (λ small. h b front (low_scalar b (omega arith)) (split ∙ ap (λ r. front ++ r) (sym (encode_ascii b small)))))
 
 module _ (test : ℕ → Bool) (ascii : OnAscii test) (R : List ℕ → Option ℕ → Type 0) where
   front_kept : ((s : List ℕ) (o : Option ℕ) → R s o → FindsPrefixBy test s o)
       → (s : List ℕ) (ns : List ℕ) (r : List ℕ) → CutsPrefixes R s ns r → strip_front test s ≡ strip_front test r
   front_kept by s [] r e = ap (strip_front test) (sym e)
-  front_kept by s (n ∷ ns) r h =
-      let cut = cut_first test ascii h.0 n (by h.0 (Some n) h.2) in
-      front_kept by s ns h.0 h.1 ∙ ap (strip_front test) cut.2 ∙ front_step test cut.0 cut.1 cut.3
-      ∙ ap (strip_front test) (sym (h.3 ∙ cut.4))
+  front_kept by s (n ∷ ns) r h = grind (arith, common_steps, cut_first, front_step, front_kept by s ns h.0 h.1)
 
   end_kept : ((s : List ℕ) (o : Option ℕ) → R s o → FindsSuffixBy test s o) → (s : List ℕ) (ns : List ℕ) (r : List ℕ)
       → CutsSuffixes R s ns r → strip_end test s ≡ strip_end test r
   end_kept by s [] r e = ap (strip_end test) (sym e)
   end_kept by s (n ∷ ns) r h =
-      let cut = cut_last test ascii h.0 n (by h.0 (Some n) h.2) in
-      end_kept by s ns h.0 h.1 ∙ ap (strip_end test) cut.2 ∙ end_step test cut.1 cut.0 cut.3
-      ∙ ap (strip_end test) (sym (h.3 ∙ cut.4))
+      grind (arith, cut_last test ascii h.0 n (by h.0 (Some n) h.2), end_step, end_kept by s ns h.0 h.1)
 
   trim_start_is : ((s : List ℕ) (o : Option ℕ) → R s o → FindsPrefixBy test s o) → (s r : List ℕ)
       → IsTrimStartMatches R s r → r ≡ strip_front test s
-  trim_start_is by s r h = sym (front_kept by s h.0.0 r h.0.1 ∙ done h.1.0 h.1.1 h.1.2)
-    where
-      done : (o : Option ℕ) → R r o → IfSome o (λ n. n ≡ 0) → strip_front test r ≡ r
-      done None f z = none_first test ascii r (by r None f)
-      done (Some n) f z =
-          let cut = cut_first test ascii r n (by r (Some n) f) in
-          absurd (omega (arith, z, ap length cut.2, ap length cut.4, length-drop n r))
+  trim_start_is by s r h = grind (arith, front_kept by s h.0.0 r h.0.1, none_first, cut_first, length-drop)
 
   trim_end_is : ((s : List ℕ) (o : Option ℕ) → R s o → FindsSuffixBy test s o) → (s r : List ℕ)
       → IsTrimEndMatches R s r → r ≡ strip_end test s
-  trim_end_is by s r h = sym (end_kept by s h.0.0 r h.0.1 ∙ done h.1.0 h.1.1 h.1.2)
-    where
-      done : (o : Option ℕ) → R r o → IfSome o (λ n. n ≡ 0) → strip_end test r ≡ r
-      done None f z = none_last test ascii r (by r None f)
-      done (Some n) f z =
-          let cut = cut_last test ascii r n (by r (Some n) f) in
-          let kept = length-take (length r - n) r in
-          absurd (omega (arith, z, ap length cut.2, ap length cut.4, kept, length-append cut.1 (cut.0 ∷ [])))
+  trim_end_is by s r h = grind (arith, end_kept by s h.0.0 r h.0.1, none_last, cut_last, length-take, length-append)
 
 -- quotes, spaces and tabs are ASCII, and are these lists of characters
 pub quote_ascii : OnAscii is_quote
@@ -149,6 +101,5 @@ EndOfSet set s o = (k : ℕ → Bool) → ((c : ℕ) → char_set_contains set c
 pub strip_set : (test : ℕ → Bool) (set : List ℕ) → OnAscii test → ((c : ℕ) → char_set_contains set c ≡ test c)
     → (s m r : List ℕ) → IsTrimStartMatches (FrontOfSet set) s m → IsTrimEndMatches (EndOfSet set) m r
     → r ≡ strip_end test (strip_front test s)
-strip_set test set ascii same s m r a b =
-    trim_end_is test ascii (EndOfSet set) (λ s o h. h test same) m r b
-    ∙ ap (strip_end test) (trim_start_is test ascii (FrontOfSet set) (λ s o h. h test same) s m a)
+strip_set test set ascii same s m r a b = trim_end_is test ascii (EndOfSet set) (λ s o h. h test same) m r b ∙ ap
+    (strip_end test) (trim_start_is test ascii (FrontOfSet set) (λ s o h. h test same) s m a)

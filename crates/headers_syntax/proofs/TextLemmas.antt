@@ -1,13 +1,10 @@
 -- What is text.
-use Rattle.std.proofs.Common.{◌≡◌, ℕ, ◌-◌, Bool, true, false, List, [], ◌∷◌, ◌++◌, take, drop, refl, sym, ◌∙◌, ap}
-use Rattle.std.{proofs.Common.{arith, inl, inr}, proofs.lemmas.Bool.{cases_Bool, false_from_ne_true, and_parts}}
-use Rattle.std.{proofs.lemmas.Bool.{and_from, ne_eqb}, proofs.lemmas.Bool.Decides.nat_tests}
-use Rattle.std.{proofs.lemmas.List.take-append-drop, specs.List.{list_all, slice_range}}
-use Rattle.std.{proofs.lemmas.List.Folds.list_all-append, proofs.lemmas.List.Sums.AllPass-from_list_all}
-use Rattle.std.proofs.lemmas.List.Sums.{list_all-from_AllPass}
-use Rattle.http_header.specs.Token.{is_token_byte, is_visible_or_blank, is_value_byte}
-use Rattle.http_header.{proofs.TokenLemmas.token_byte_range, specs.FieldValue.{IsVisibleAscii, IsFieldValue}}
-use Rattle.headers_syntax.specs.Text.{is_blank, is_quote, is_text, quote}
+use Rattle.std.proofs.Common.{Bool, List, [], ap, arith, drop, false, refl, take, true, ℕ, ◌++◌, ◌-◌, ◌∙◌, ◌∷◌, ◌≡◌}
+use Rattle.std.proofs.lemmas.List.{Folds.list_all-append, Sums.{AllPass-from_list_all, list_all-from_AllPass}}
+use Rattle.{headers_syntax.specs.Text.{is_blank, is_quote, is_text, quote}, std.proofs.lemmas.Grind.common_steps}
+use Rattle.std.proofs.lemmas.{Bool.{Decides.nat_tests, and_from, false_from_ne_true, ne_eqb}, List.take-append-drop}
+use Rattle.http_header.specs.{FieldValue.{IsFieldValue, IsVisibleAscii}, Token.{is_token_byte, is_visible_or_blank}}
+use Rattle.{http_header.proofs.TokenLemmas.token_byte_range, std.specs.List.{list_all, slice_range}}
 
 pub is_text-from_visible : (s : List ℕ) → IsVisibleAscii s → is_text s ≡ true
 is_text-from_visible s h = list_all-from_AllPass is_visible_or_blank s h
@@ -22,10 +19,7 @@ no_text s h = false_from_ne_true _ (λ e. h (visible-from_is_text s e))
 pub list_all-parts : (f : ℕ → Bool) (xs ys : List ℕ) → list_all f (xs ++ ys) ≡ true → (list_all f xs ≡ true)
     × (list_all f ys ≡ true)
 list_all-parts f [] ys h = (refl, h)
-list_all-parts f (x ∷ xs) ys h =
-    let parts = and_parts (f x) (list_all f (xs ++ ys)) h in
-    let later = list_all-parts f xs ys parts.1 in
-    (and_from _ _ parts.0 later.0, later.1)
+list_all-parts f (x ∷ xs) ys h = grind (arith, common_steps, and_from)
 
 pub list_all-both : (f : ℕ → Bool) (xs ys : List ℕ) → list_all f xs ≡ true → list_all f ys ≡ true
     → list_all f (xs ++ ys) ≡ true
@@ -44,13 +38,8 @@ token_no_blank b t = let range = token_byte_range b t in grind (arith, nat_tests
 
 pub token_no_quote : (b : ℕ) → is_token_byte b ≡ true → is_quote b ≡ false
 unfolding is_token_byte
-token_no_quote b t =
-    ne_eqb b quote (λ e. let bad : is_token_byte quote ≡ true = ap is_token_byte (sym e) ∙ t in absurd (cc bad))
+token_no_quote b t = grind (arith, ne_eqb)
 
 -- a value that is not refused is one
 pub IsFieldValue-from_kept : (bytes : List ℕ) → ¬ (¬ (IsFieldValue bytes)) → IsFieldValue bytes
-IsFieldValue-from_kept bytes kept =
-    elim (cases_Bool (list_all is_value_byte bytes)) [
-      | inl t ↦ AllPass-from_list_all is_value_byte bytes t
-      | inr f ↦ absurd (kept (λ valid. let t = list_all-from_AllPass is_value_byte bytes valid in absurd (cc (t, f))))
-    ]
+IsFieldValue-from_kept bytes kept = grind (arith, AllPass-from_list_all, list_all-from_AllPass)

@@ -1,7 +1,6 @@
-use Rattle.std.proofs.Common.{sym, ◌∙◌, ap}
-use Rattle.headers_syntax.specs.Text.{is_text}
-use Rattle.headers_items.{specs.ItemsState.items_left, proofs.PlacesLemmas.items-no_text}
-use Rattle.headers_items.proofs.WalkLemmas.{walk_over-no_text}
+use Rattle.headers_items.proofs.{PlacesLemmas.items-no_text, WalkLemmas.walk_over-no_text}
+use Rattle.{headers_items.specs.ItemsState.items_left, headers_syntax.specs.Text.is_text, std.proofs.Common.{ap, sym}}
+use Rattle.std.proofs.Common.{◌∙◌}
 use Rattle.headers_items.proofs.flat_csv.text_items.Goals as goal
 
 pub new-requires : goal.new-requires

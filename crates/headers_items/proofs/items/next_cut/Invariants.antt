@@ -1,5 +1,4 @@
-use Rattle.std.proofs.Common.{◌-◌, length}
-use Rattle.headers_items.proofs.ItemsLemmas.{PassesCuts}
+use Rattle.{headers_items.proofs.ItemsLemmas.PassesCuts, std.proofs.Common.{length, ◌-◌}}
 use Rattle.headers_items.proofs.items.next_cut.Given as goal
 
 abbrev pub invariant-loop-mark : goal.invariant-loop-mark

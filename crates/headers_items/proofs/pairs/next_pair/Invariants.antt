@@ -1,6 +1,5 @@
-use Rattle.std.proofs.Common.{◌≡◌, length}
-use Rattle.headers_items.{specs.ItemsState.items_left, specs.Pairs.{has_pair, pairs_left}}
-use Rattle.headers_items.proofs.PassingLemmas.{PassesUnwanted}
+use Rattle.headers_items.{proofs.PassingLemmas.PassesUnwanted, specs.{ItemsState.items_left, Pairs.has_pair}}
+use Rattle.{headers_items.specs.Pairs.pairs_left, std.proofs.Common.{length, ◌≡◌}}
 use Rattle.headers_items.proofs.pairs.next_pair.Given as goal
 
 abbrev pub invariant-loop-item : goal.invariant-loop-item

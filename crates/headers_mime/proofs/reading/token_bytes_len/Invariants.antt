@@ -1,5 +1,4 @@
-use Rattle.std.{proofs.Common.{◌≡◌, ◌+◌, drop}, specs.List.prefix_len}
-use Rattle.http_header.specs.Token.{is_token_byte}
+use Rattle.{http_header.specs.Token.is_token_byte, std.{proofs.Common.{drop, ◌+◌, ◌≡◌}, specs.List.prefix_len}}
 use Rattle.headers_mime.proofs.reading.token_bytes_len.Given as goal
 
 abbrev pub invariant-loop-i : goal.invariant-loop-i

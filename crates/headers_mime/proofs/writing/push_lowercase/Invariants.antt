@@ -1,5 +1,4 @@
-use Rattle.std.proofs.Common.{◌≡◌, ◌++◌, take}
-use Rattle.http_header.specs.Token.{lowercase}
+use Rattle.{http_header.specs.Token.lowercase, std.proofs.Common.{take, ◌++◌, ◌≡◌}}
 use Rattle.headers_mime.proofs.writing.push_lowercase.Given as goal
 
 abbrev pub invariant-loop-byte : goal.invariant-loop-byte

@@ -3,8 +3,7 @@ use Rattle.headers_mime.specs.MediaTypeReading.{canonical_rest}
 use Rattle.headers_mime.proofs.writing.push_parameters.Given as goal
 
 abbrev pub invariant-loop-rest : goal.invariant-loop-rest
-invariant-loop-rest l =
-    option_map (λ (t : List ℕ). l.initial.text.items ++ t) (canonical_rest l.initial.rest)
+invariant-loop-rest l = option_map (λ (t : List ℕ). l.initial.text.items ++ t) (canonical_rest l.initial.rest)
     ≡ option_map (λ (t : List ℕ). l.text.items ++ t) (canonical_rest l.rest)
 
 abbrev pub decreases-loop-rest : goal.decreases-loop-rest

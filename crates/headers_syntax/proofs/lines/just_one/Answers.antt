@@ -13,7 +13,6 @@ returns-in-None-clause-value g c =
     (OfLines-none g.I.Item.AsHeaderValue.shown g.I.Iterator.next_gives _ _ _ c.in-None.ensures.steps refl)
 
 pub returns-in-Some-clause-value : goal.returns-in-Some-clause-value
-returns-in-Some-clause-value g c =
-    OfLines-some g.I.Item.AsHeaderValue.shown g.I.Iterator.next_gives _ _ _ _ _ c.in_ok-only.ensures.steps
-    (OfLines-some g.I.Item.AsHeaderValue.shown g.I.Iterator.next_gives _ _ _ _ _ c.in-Some.ensures.steps
-    (OfLines-stop g.I.Item.AsHeaderValue.shown g.I.Iterator.next_gives _ _ (λ _. refl)))
+returns-in-Some-clause-value g c = OfLines-some g.I.Item.AsHeaderValue.shown g.I.Iterator.next_gives _ _ _ _ _
+    c.in_ok-only.ensures.steps (OfLines-some g.I.Item.AsHeaderValue.shown g.I.Iterator.next_gives _ _ _ _ _
+    c.in-Some.ensures.steps (OfLines-stop g.I.Item.AsHeaderValue.shown g.I.Iterator.next_gives _ _ (λ _. refl)))

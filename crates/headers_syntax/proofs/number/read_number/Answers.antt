@@ -1,6 +1,5 @@
-use Rattle.std.proofs.Common.{sym, ◌∙◌, ap}
-use Rattle.headers_syntax.specs.Number.{after_plus, number}
-use Rattle.headers_syntax.proofs.NumberLemmas.{number-none, number-parse, number-digits}
+use Rattle.headers_syntax.{proofs.NumberLemmas.{number-digits, number-none, number-parse}, specs.Number.after_plus}
+use Rattle.{headers_syntax.specs.Number.number, std.proofs.Common.{ap, sym, ◌∙◌}}
 use Rattle.headers_syntax.proofs.number.read_number.Goals as goal
 
 pub returns-then-digits-le-SHORT : goal.returns-then-digits-le-SHORT

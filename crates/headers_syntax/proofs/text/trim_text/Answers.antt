@@ -3,6 +3,5 @@ use Rattle.headers_syntax.{specs.Text.is_blank, proofs.StripLemmas.{strip_set, b
 use Rattle.headers_syntax.proofs.text.trim_text.Goals as goal
 
 pub returns : goal.returns
-returns c =
-    strip_set is_blank (9 ∷ 32 ∷ []) blank_ascii is_blank_set _ _ _ c.trim_start_matches.ensures.matches
+returns c = strip_set is_blank (9 ∷ 32 ∷ []) blank_ascii is_blank_set _ _ _ c.trim_start_matches.ensures.matches
     c.trim_end_matches.ensures.matches

@@ -1,5 +1,4 @@
-use Rattle.std.{proofs.Common.{◌≡◌, ◌+◌, drop}, specs.List.prefix_len}
-use Rattle.headers_syntax.specs.Text.{is_blank}
+use Rattle.{headers_syntax.specs.Text.is_blank, std.{proofs.Common.{drop, ◌+◌, ◌≡◌}, specs.List.prefix_len}}
 use Rattle.headers_syntax.proofs.trimming.leading.Given as goal
 
 abbrev pub invariant-loop-i : goal.invariant-loop-i

@@ -1,6 +1,5 @@
-use Rattle.std.proofs.Common.{◌≡◌, ◌++◌, ◌≤◌, drop, length}
-use Rattle.headers_items.{specs.Places.pieces, specs.CutLaw.AreCuts}
-use Rattle.headers_syntax.specs.Lines.{lines_of}
+use Rattle.{headers_items.specs.{CutLaw.AreCuts, Places.pieces}, headers_syntax.specs.Lines.lines_of}
+use Rattle.std.proofs.Common.{drop, length, ◌++◌, ◌≡◌, ◌≤◌}
 use Rattle.headers_items.proofs.flat_csv.FlatCsv.cut_at.Given as goal
 
 abbrev pub invariant-loop-place : goal.invariant-loop-place

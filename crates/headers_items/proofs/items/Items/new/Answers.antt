@@ -1,5 +1,4 @@
-use Rattle.std.proofs.Common.{arith}
-use Rattle.headers_items.proofs.ItemsLemmas.{items_from-le}
+use Rattle.{headers_items.proofs.ItemsLemmas.items_from-le, std.proofs.Common.arith}
 use Rattle.headers_items.proofs.items.Items.new.Goals as goal
 
 pub returns-clause-count : goal.returns-clause-count

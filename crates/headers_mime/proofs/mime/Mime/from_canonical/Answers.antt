@@ -1,6 +1,5 @@
-use Rattle.std.proofs.Common.{sym, subst}
-use Rattle.http_header.specs.FieldValue.{IsFieldValue}
-use Rattle.headers_mime.proofs.MimeLemmas.{is_canonical-value}
+use Rattle.{headers_mime.proofs.MimeLemmas.is_canonical-value, http_header.specs.FieldValue.IsFieldValue}
+use Rattle.std.proofs.Common.{subst, sym}
 use Rattle.headers_mime.proofs.mime.Mime.from_canonical.Goals as goal
 
 pub from_known_valid-requires : goal.from_known_valid-requires

@@ -1,7 +1,6 @@
-use Rattle.std.proofs.Common.{vec_items, Global, List, ℕ, Err, ◌∙◌, subst}
-use Rattle.headers_mime.{specs.MediaType.IsMediaType, specs.MimeText.ReadsMime}
-use Rattle.headers_mime.{proofs.CanonicalLemmas.canonical-from_canonical_of, proofs.MimeLemmas.known-reads}
-use Rattle.headers_mime.proofs.MimeLemmas.{reading-from_canonical_of, refused_reading}
+use Rattle.headers_mime.proofs.{CanonicalLemmas.canonical-from_canonical_of, MimeLemmas.known-reads}
+use Rattle.headers_mime.{proofs.MimeLemmas.{reading-from_canonical_of, refused_reading}, specs.MediaType.IsMediaType}
+use Rattle.{headers_mime.specs.MimeText.ReadsMime, std.proofs.Common.{Err, Global, List, subst, vec_items, ℕ, ◌∙◌}}
 use Rattle.headers_mime.proofs.mime.Mime.parse.Goals as goal
 
 pub from_canonical-requires : goal.from_canonical-requires
@@ -16,8 +15,7 @@ returns-in_ok-from_canonical-in-Ok c =
     )
 
 pub returns-in-Err : goal.returns-in-Err
-returns-in-Err c =
-    subst (λ (s : List ℕ). ReadsMime s (Err c.in-Err.refused)) c.as_bytes.ensures.value
+returns-in-Err c = subst (λ (s : List ℕ). ReadsMime s (Err c.in-Err.refused)) c.as_bytes.ensures.value
     (refused_reading (vec_items {Z = Global}) c.as_bytes.result.now c.in-Err.refused c.in-Err.ensures)
 
 pub returns-in-Some : goal.returns-in-Some
