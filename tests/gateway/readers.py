@@ -2,7 +2,6 @@
 theorem: of a request in plain form each takes that request, or rejects it."""
 import concurrent.futures
 import random
-import socket
 from collections import Counter
 from collections.abc import Callable
 from dataclasses import dataclass, fields

@@ -7,7 +7,7 @@ use Rattle.std.specs.List.{AllByRecursion, concat, list_all, list_any, slice_spl
 use Rattle.std.specs.Char.{is_ascii_graphic, is_ascii_hexdigit, is_ascii_digit, to_ascii_lowercase, digit_value}
 use Rattle.std.specs.Char.{is_ascii_alphanumeric}
 use Rattle.std.specs.Str.Parse.{AllDigits, digits_value, without_leading_plus}
-use Rattle.std.proofs.lemmas.Bool.{and_from, and_parts, and_right, cases_Bool, ne_eqb, not-true, true≢false}
+use Rattle.std.proofs.lemmas.Bool.{eqb-true, and_from, and_parts, and_right, cases_Bool, ne_eqb, not-true, true≢false}
 use Rattle.std.proofs.lemmas.Bool.Decides.{nat_tests}
 use Rattle.std.proofs.lemmas.List.{drop_at, reverse-append, reverse-reverse, take_at}
 use Rattle.std.proofs.lemmas.List.Elements.{All-head, All-tail, All-weaker}
@@ -774,6 +774,51 @@ module _ (r : Reader) (h : Header) where
       by_spelling DashOrMark (b ∷ name) plain =
           let parts = and_parts (is_ascii_alphanumeric b || eqb b 45) (has_no_marks name) plain in
           λ i. dash b parts.0 i ∷ by_spelling DashOrMark name parts.1 i
+
+lower_alphanumeric : (b : ℕ) → is_ascii_alphanumeric (to_ascii_lowercase b) ≡ is_ascii_alphanumeric b
+lower_alphanumeric b = grind (arith, nat_tests)
+
+-- a byte of a name, with a dash for each mark
+unmarked : ℕ → ℕ
+unmarked b = cond (is_ascii_alphanumeric b) b 45
+
+unmarked_byte : (b : ℕ) → (unmarked (to_ascii_lowercase b) ≡ cond (is_ascii_alphanumeric b) (to_ascii_lowercase b) 45)
+    × (unmarked (cond (eqb b 95) 45 (to_ascii_lowercase b)) ≡ cond (is_ascii_alphanumeric b) (to_ascii_lowercase b) 45)
+    × (unmarked (cond (is_ascii_alphanumeric b) (to_ascii_lowercase b) 45)
+    ≡ cond (is_ascii_alphanumeric b) (to_ascii_lowercase b) 45)
+unfolding unmarked
+unmarked_byte b =
+    let low = lower_alphanumeric b in
+    let dashed = λ (t : Bool). cond t (to_ascii_lowercase b) 45 in (
+      ap dashed low,
+      elim (cases_Bool (eqb b 95)) [ inl is ↦ rw (eqb-true b 95 is) refl | inr is ↦ rw is (ap dashed low) ],
+      elim (cases_Bool (is_ascii_alphanumeric b)) [ inl is ↦ rw is (ap dashed (low ∙ is)) | inr is ↦ rw is refl ],
+    )
+
+unmarked_name : (spelling : Spelling) (name : List ℕ) → map unmarked (spelled spelling name) ≡ spelled DashOrMark name
+unmarked_name Dash [] = refl
+unmarked_name Dash (b ∷ name) = λ i. (unmarked_byte b).0 i ∷ unmarked_name Dash name i
+unmarked_name DashOrUnderscore [] = refl
+unmarked_name DashOrUnderscore (b ∷ name) = λ i. (unmarked_byte b).1 i ∷ unmarked_name DashOrUnderscore name i
+unmarked_name DashOrMark [] = refl
+unmarked_name DashOrMark (b ∷ name) = λ i. (unmarked_byte b).2 i ∷ unmarked_name DashOrMark name i
+
+unlike : (spelling : Spelling) (name known : List ℕ) → map unmarked known ≡ known
+    → bytes_eq (spelled DashOrMark name) known ≡ false → bytes_eq (spelled spelling name) known ≡ false
+unlike spelling name known fixed other = elim (cases_Bool (bytes_eq (spelled spelling name) known)) [
+  | inl is ↦ let same = (bytes_eq-Decides (spelled spelling name) known).0 is in
+      let like = sym (unmarked_name spelling name) ∙ ap (map unmarked) same ∙ fixed in
+      absurd (true≢false (sym ((bytes_eq-Decides (spelled DashOrMark name) known).1 like) ∙ other))
+  | inr is ↦ is
+]
+
+pub unlike_is_spelled : (r : Reader) (h : Header) → bytes_eq (spelled DashOrMark h.0) length_name ≡ false
+    → bytes_eq (spelled DashOrMark h.0) coding_name ≡ false → IsSpelled r h
+unfolding eq_ignore_case unmarked
+unlike_is_spelled r h length coding = record {
+  length = unlike r.spelling h.0 length_name refl length ∙ sym (unlike Dash h.0 length_name refl length);
+  coding = unlike r.spelling h.0 coding_name refl coding ∙ sym (unlike Dash h.0 coding_name refl coding);
+}
 
 -- ---- readers in use
 

@@ -1,11 +1,11 @@
 //! Theorems about the definitions alone. To cite one in a proof, call it.
-ghost use Rattle.std.specs.Prelude.{◌≡◌, ◌≢◌, ◌<◌, ◌≤◌, ◌++◌, [], List, ℕ, All, codes, length, true};
+ghost use Rattle.std.specs.Prelude.{◌≡◌, ◌≢◌, ◌<◌, ◌≤◌, ◌++◌, [], List, ℕ, All, bytes_eq, codes, false, length, true};
 ghost use Rattle.http1.specs.{Conservative.IsPlainRequest, Fields.Header, declared.conn.Limits.Limits};
 ghost use Rattle.gateway_connection.specs.History.{IsReached, Past};
 ghost use Rattle.gateway_connection.specs.Readers.{AreFirstOf, AreSpelled, IsSpelled, Message, Reader, TakesAll};
 ghost use Rattle.gateway_connection.specs.Readers.{TakesOrRejects, message_of, part_now, read_request, whole_requests};
-ghost use Rattle.gateway_connection.specs.{Readers.{Dash, NeedsMore, Takes, has_no_marks}, ReadersInUse.{go, h11, old_chunks}};
-ghost use Rattle.gateway_connection.specs.ReadersInUse.{in_use, old_head, plain_post, post_of};
+ghost use Rattle.gateway_connection.specs.Readers.{Dash, DashOrMark, NeedsMore, Takes, has_no_marks, spelled};
+ghost use Rattle.gateway_connection.specs.ReadersInUse.{go, h11, in_use, old_chunks, old_head, plain_post, post_of};
 ghost use Rattle.std.specs.List.{AllByRecursion};
 ghost use Rattle.gateway_connection.specs.declared.origin.OriginConnection.{OriginConnection};
 
@@ -45,10 +45,14 @@ pub fn written_requests_are_read_alike()
 {}
 
 /// Theorem: a reader takes the names of the two fields that frame content for those, and no others, if it takes
-/// nothing for a dash, or if the names have only letters, digits and dashes.
-pub fn names_without_marks_are_spelled()
+/// nothing for a dash; if the names have only letters, digits and dashes; or if they are other names even with a dash for
+/// each other byte.
+pub fn names_are_spelled()
     ensures dash { (reader : Reader) (field : Header) → reader.spelling ≡ Dash → IsSpelled reader field }
     ensures marks { (reader : Reader) (field : Header) → has_no_marks field.0 ≡ true → IsSpelled reader field }
+    ensures unlike { (reader : Reader) (field : Header)
+        → bytes_eq (spelled DashOrMark field.0) (codes "content-length") ≡ false
+        → bytes_eq (spelled DashOrMark field.0) (codes "transfer-encoding") ≡ false → IsSpelled reader field }
 {}
 
 /// Theorem: of two requests in plain form, one after another, the readers that are named take the first.
