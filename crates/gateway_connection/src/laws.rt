@@ -10,7 +10,8 @@ ghost use Rattle.std.specs.List.{AllByRecursion};
 ghost use Rattle.gateway_connection.specs.declared.origin.OriginConnection.{OriginConnection};
 
 /// Theorem: each reader takes a request in plain form for exactly its method, its target and its content, and
-/// leaves what follows it, or rejects it.
+/// leaves what follows it, or rejects it. The premise is that it takes no other field name of the request for one of the
+/// two that frame content.
 #[tactic(auto, using(crate::proofs::ReaderLemmas::plain_request_is_taken))]
 pub fn plain_request_is_read_alike()
     ensures { (reader : Reader) (text rest : List ℕ) (plain : IsPlainRequest text)
@@ -18,7 +19,7 @@ pub fn plain_request_is_read_alike()
         → TakesOrRejects (message_of plain) rest (read_request reader (text ++ rest)) }
 {}
 
-/// Theorem: two readers that take a request in plain form take the same, and leave the same bytes.
+/// Theorem: two such readers that take a request in plain form take the same, and leave the same bytes.
 pub fn readers_cut_plain_requests_alike()
     ensures { (one other : Reader) (text rest : List ℕ) (plain : IsPlainRequest text) (a b : Message)
         (after_a after_b : List ℕ) → All (IsSpelled one) plain.fields → All (IsSpelled other) plain.fields
@@ -28,7 +29,8 @@ pub fn readers_cut_plain_requests_alike()
 
 /// Theorem: whatever the history of calls, and whatever bytes follow, each reader takes of the bytes that a connection
 /// wrote the requests that were put whole: their methods, targets and content, one after another, cut where
-/// they were put, up to one that it rejects. It doesn't wait for more bytes before it has taken them all.
+/// they were put, up to one that it rejects. It doesn't wait for more bytes before it has taken them all. The premise is
+/// that it takes no other field name of these requests for one of the two that frame content.
 #[tactic(auto, using(crate::proofs::WrittenLemmas::written_alike, crate::proofs::WrittenLemmas::reading_goes_on))]
 pub fn written_requests_are_read_alike()
     ensures cut { (limits : Limits) (connection : OriginConnection) (past : Past) (reader : Reader) (more : List ℕ)
@@ -44,8 +46,8 @@ pub fn written_requests_are_read_alike()
         → length messages < length (whole_requests past) → read_request reader rest ≢ NeedsMore }
 {}
 
-/// Theorem: a reader takes the names of the two fields that frame content for those, and no others, if it takes
-/// nothing for a dash; if the names have only letters, digits and dashes; or if they are other names even with a dash for
+/// Theorem: a reader takes the names of the two fields that frame content for those, and no others, if it takes only
+/// a dash for a dash; if the names have only letters, digits and dashes; or if they are other names even with a dash for
 /// each other byte.
 pub fn names_are_spelled()
     ensures dash { (reader : Reader) (field : Header) → reader.spelling ≡ Dash → IsSpelled reader field }
