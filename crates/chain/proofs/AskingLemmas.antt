@@ -1,6 +1,6 @@
 -- The conditions that a cache adds to a plain request change no answer but to a 304.
-use Rattle.std.proofs.Common.{◌≡◌, ◌≢◌, ◌↔◌, ◌⊎◌, ℕ, ◌<◌, Bool, true, false, List, [], Option, Some, None, refl, sym, ◌∙◌}
-use Rattle.std.{proofs.Common.{ap, arith, inl, inr, length, subst}, specs.Prelude.codes}
+use Rattle.std.proofs.Common.{◌≡◌, ◌≢◌, ◌↔◌, ℕ, ◌<◌, Bool, true, false, List, [], Option, Some, None, refl, ◌∙◌}
+use Rattle.std.{proofs.Common.{ap, arith, inl, inr, subst}, specs.Prelude.codes}
 use Rattle.{http_header.specs.FieldValue.FieldValue, headers.specs.{LineMap.{Field, LineMap}, Lines.Line}}
 use Rattle.headers.specs.Typed.{HasLine}
 use Rattle.decide_cors.specs.{Kinds.IsKindOf, Policy.Policy, declared.kind.CorsKind.CorsKind}
@@ -12,8 +12,9 @@ use Rattle.decide_preconditions.specs.declared.plan.Plan.TheVariants.{Unsatisfia
 use Rattle.decide_preconditions.specs.declared.resource.{TargetState.TargetState as Target, Validators.Validators}
 use Rattle.decide_preconditions.specs.declared.response.Response.{Response}
 use Rattle.decide_resource.specs.Answers.{GivesIf, IsAnswer, IsSelected, IsShared, is_admitted, response_fields}
-use Rattle.decide_resource.specs.{Answers.status_sent, Applies.{applies, is_read, is_unacceptable, rule_for, takes_type}}
-use Rattle.decide_resource.specs.{Fields.{reason_fields, vary_lines}, Representations.score, Requests.Request}
+use Rattle.decide_resource.specs.Applies.{applies, is_read, is_unacceptable, rule_for, takes_type}
+use Rattle.decide_resource.specs.{Answers.status_sent, Fields.{reason_fields, vary_lines}, Representations.score}
+use Rattle.decide_resource.specs.Requests.{Request}
 use Rattle.decide_resource.specs.{Vary.{AreAlike, ChooseAlike}, declared.answer.{Answer.Answer, Sends.Sends}}
 use Rattle.decide_resource.specs.declared.{reason.Reason.Reason, representation.Representation.Representation}
 use Rattle.decide_resource.specs.declared.resource.Resource.{Resource}

@@ -2,9 +2,9 @@
 use Rattle.std.proofs.Common.{◌≡◌, ◌≢◌, ◌⊎◌, ◌↔◌, ℕ, ◌+◌, ◌<◌, ◌≤◌, Bool, true, false, List, [], ◌∷◌, ◌++◌, Some, None}
 use Rattle.std.proofs.Common.{◌∙◌, ap, append_assoc, subst, sym, inl, inr, arith, option_map, Option, refl, length}
 use Rattle.std.proofs.lemmas.{Bool.{cases_Bool, cond_both}, Option.same_Some, Slice.Eq.bytes_eq-Decides}
-use Rattle.std.specs.{List.list_any, Prelude.{◌&&◌, ◌||◌, All, IsSomeAnd, bytes_eq, codes, if◌then◌else◌, nat_lt, not}}
+use Rattle.std.specs.{List.list_any, Prelude.{All, IsSomeAnd, bytes_eq, codes}}
 use Rattle.{http_header.specs.Token.lowercase, headers.specs.Date.fixdate}
-use Rattle.headers.specs.{LineMap.{LineMap, fields_of, lines_at, set_all}, Lines.Line, Typed.HasLine}
+use Rattle.headers.specs.{LineMap.{LineMap, lines_at, set_all}, Lines.Line, Typed.HasLine}
 use Rattle.{decide_preconditions.specs.Preconditions.IsGetOrHead, cache_policy.specs.Fields.{age_of, age_value}}
 use Rattle.cache_policy.specs.{Freshening.{freshened, is_kept_name}, Requests.AllowsMethod, Varying.Agree}
 use Rattle.cache_policy.specs.Updating.{HasStrongTag, HasValidator, IsUpdated, tag_in}
@@ -17,7 +17,7 @@ use Rattle.chain.specs.Caches.{IsFromStore, IsPlain, Origin, Reply, asked, calls
 use Rattle.chain.specs.{Caches.with_conditions, Chains.{Counts, GatewayAnswers, Hop, Hop.{Forwards, Stores}, IsBlank}}
 use Rattle.chain.specs.Chains.{IsForwardedBack, IsGivenUp, IsOwn, IsSentBack, IsTold, Keeps, behind, caches, meant, own}
 use Rattle.chain.specs.{Ways.{IsSentOn, named_host, sent_directly}, Servers.{IsCarried, IsSaid, SaysCloseAtMost}}
-use Rattle.chain.specs.Servers.{SaysWhatHasChanged, Server, Site, renewed, sent_of}
+use Rattle.chain.specs.Servers.{SaysWhatHasChanged, Server, Site, renewed}
 use Rattle.chain.proofs.{AskingLemmas.{ReadsNoMore, without_conditions}, ConnectionLemmas.{crosses_if, names_none}}
 use Rattle.chain.proofs.ServerLemmas.{same_sent, says_close_at_most}
 use Rattle.chain.proofs.StoreLemmas.{Held, IsRenewing, IsStoring, StoreLaws, age_is, agreed_on, allowed_method, came}
@@ -338,7 +338,8 @@ module _ (request : Request) where
   as_head is_head = alike_by (head_of request) request (λ name is. refl) refl (sym is_head) refl refl refl refl refl
 
   as_it_is : (method : List ℕ) → method ≡ request.method → AreAlike (with_method method request) request
-  as_it_is method same = alike_by (with_method method request) request (λ name is. refl) refl same refl refl refl refl refl
+  as_it_is method same =
+      alike_by (with_method method request) request (λ name is. refl) refl same refl refl refl refl refl
 
   choose_it : ChooseAlike request.fields request.fields
   choose_it = choose_by request request (λ name is. refl)
@@ -689,7 +690,8 @@ module _ (reads : ReadsNoMore) (heads : HeadIsAsGet) (sound : VaryIsSound) (memb
             let is_get = only_get h.request.method request.method (allowed_method h c.plain fits) c.method in
             let lines = λ (name : List ℕ). sym (ap (λ m. lines_at m name) fresh.request ∙ h.lines name) in
             let said = said_to (site (named_host request) target) t.time target request h.request (reply_of new)
-            c.plain plain (sym first.host) (inl (c.method, inl is_get)) (agree_back (lines_at new.request) request.fields h.request.fields _ lines suits.fields)
+            c.plain plain (sym first.host) (inl (c.method, inl is_get))
+            (agree_back (lines_at new.request) request.fields h.request.fields _ lines suits.fields)
             (said_304 c h fits about fresh) in
             subst (λ (u : List ℕ). Says u h.request c.sent c.received new) (sym first.target) (inl (
             record {

@@ -1,6 +1,6 @@
 -- A client, a gateway, a cache that answers from its store, and the server of a resource that is gone.
 use Rattle.std.proofs.Common.{◌≡◌, ◌≢◌, ◌⊎◌, ℕ, zero, suc, ◌<◌, ◌≤◌, true, false, List, [], ◌∷◌, ◌++◌, map, Some, None}
-use Rattle.std.proofs.{Common.{refl, sym, ◌∙◌, subst, inl, inr, arith}, lemmas.Bool.cases_Bool}
+use Rattle.std.proofs.{Common.{Option, refl, sym, ◌∙◌, subst, inl, inr, arith}, lemmas.Bool.cases_Bool}
 use Rattle.std.proofs.lemmas.{Slice.Eq.bytes_eq-Decides, List.Elements.{All-cons, All-nil}, Option.same_Some}
 use Rattle.{std.specs.Prelude.{All, bytes_eq, codes, decimal, slice_get, ⊤}, http_header.specs.FieldValue.FieldValue}
 use Rattle.http_header.specs.{FieldValue.plain_value, HeaderMap.Entries, Token.is_token_byte}
@@ -17,14 +17,18 @@ use Rattle.gateway_messages.specs.{Spellings.is_misspelt, declared.field_line.Fi
 use Rattle.gateway_messages.specs.declared.request.ForwardedRequest.{ForwardedRequest}
 use Rattle.gateway_messages.specs.declared.{gateway.Gateway.Gateway, framing.Framing.TheVariants.Unstated}
 use Rattle.{gateway_messages.specs.declared.protocol.Protocol.TheVariants.Http11, decide_cors.proofs.MadeLemmas.vec}
-use Rattle.decide_resource.specs.{Answers.{HasFewParts, TakesFew}, Applies.{applies, rule_for}, Reasons.Before}
+use Rattle.decide_resource.specs.{Answers.{GivesIf, HasFewParts, TakesFew, is_admitted}, Applies.{applies, rule_for}}
+use Rattle.decide_resource.specs.{Fields.{denied_status, status_of}, Reasons.{Before, IsFirst}}
+use Rattle.decide_resource.specs.declared.denied.Denied.{Denied as Denial}
 use Rattle.decide_resource.specs.{Requests.Request, declared.reason.Reason.Reason}
 use Rattle.decide_resource.specs.declared.{request.RequestContent.TheVariants.Absent, resource.Resource.Resource}
 use Rattle.chain.specs.Caches.{Caching, HasComeFrom, IsFromStore, IsPlain, Origin, Reply, Act.Takes, asked, key_of}
-use Rattle.chain.specs.{Caches.per_second, Chains.{IsSentBack, behind}, Instances.IsInstance, Servers.{IsSaid, IsSent}}
+use Rattle.chain.specs.{Caches.{per_second, second_of, with_conditions}, Chains.{IsSentBack, behind}}
+use Rattle.chain.specs.{Instances.IsInstance, Servers.{IsSaid, IsSent, SaysWhatHasChanged}}
 use Rattle.chain.{specs.{Servers.Server, Ways.IsSentOn}, proofs.AgeLemmas.age_of-decimal}
 use Rattle.chain.proofs.ServingLemmas.{without_special}
 use Rattle.decide_resource.specs.declared.answer.Sends.TheVariants as sends
+use Rattle.decide_resource.specs.declared.denied.Denied.TheVariants as denials
 use Rattle.decide_resource.specs.declared.reason.Reason.TheVariants as reasons
 use Rattle.decide_resource.specs.declared.resource.State.TheVariants as state
 
@@ -173,16 +177,20 @@ fair_asked name = each (IsFair (host_line ∷ [])) (codes "host" ∷ codes "via"
     (inl (refl, refl, λ own. refl), (inl (refl, refl, λ own. absurd (own 0 [] (omega arith) refl)), tt))
     (λ apart. inr (rw (apart.0, apart.1.0) refl, rw apart.0 refl))
 
+abbrev forwarded : ForwardedRequest
+forwarded =
+    record { framing = Unstated; hops = None; fields = vec (sent (host_line ∷ via_line ∷ [])) (omega arith) }
+
 there : IsSentOn gateway request next
 unfolding is_reg_name
 there = record {
   fields = sent_fields forwarded.fields.items;
   sent = inl (
-      forwarded,
-      assumption
-          (crosses (host_line ∷ []) fair_asked, drops (host_line ∷ []) fair_asked, ends (host_line ∷ []) fair_asked),
-      refl,
-    );
+    forwarded,
+    assumption
+        (crosses (host_line ∷ []) fair_asked, drops (host_line ∷ []) fair_asked, ends (host_line ∷ []) fair_asked),
+    refl,
+  );
   passed = record {
     protocol = refl;
     method = refl;
@@ -193,13 +201,6 @@ there = record {
   };
 }
   where
-    abbrev forwarded : ForwardedRequest
-    forwarded = record {
-      framing = Unstated;
-      hops = None;
-      fields = vec (sent (host_line ∷ via_line ∷ [])) (omega arith);
-    }
-
     passed_fields : (name : List ℕ) → next.fields name ≡ after (host_line ∷ []) name
     passed_fields name = each (λ (name : List ℕ). next.fields name ≡ after (host_line ∷ []) name)
         (codes "host" ∷ codes "via" ∷ []) name (refl, (refl, tt)) (λ apart. rw (apart.0, apart.1.0) refl)
@@ -416,8 +417,8 @@ never : (time : ℕ) (asks : Request) (reply : Reply) → IsSaid server time ask
 never time asks reply said e = by said.answer.reason said.is.first said.is.gives
   where
     by : (reason : Reason) → IsFirst (applies (second_of time) gone asks) reason
-        → GivesIf (is_admitted reason) (second_of time) gone asks reason said.answer.status said.answer.sends said.is.own
-        → ⊥
+        → GivesIf (is_admitted reason) (second_of time) gone asks reason said.answer.status said.answer.sends
+        said.is.own → ⊥
     by reasons.Admitted first gives = cc (first.none_before reasons.Gone (omega arith))
     by reason first gives = no_304 asks.denied reason (same_Some _ _ (sym gives.has_status ∙ said.status) ∙ e)
 

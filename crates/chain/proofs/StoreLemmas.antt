@@ -3,8 +3,8 @@ use Rattle.std.proofs.Common.{◌≡◌, ◌≢◌, ◌⊎◌, ℕ, ◌+◌, ◌
 use Rattle.std.proofs.Common.{ap, arith, inl, inr, subst, sym}
 use Rattle.std.proofs.lemmas.{Bool.{and_parts, cases_Bool, Decides.nat_tests}}
 use Rattle.std.proofs.lemmas.{List.{Elements.All-weaker, Folds.list_any-append}, Slice.Eq.bytes_eq-Decides}
-use Rattle.std.specs.{List.{list_all, list_any}, Prelude.{◌&&◌, ◌||◌, ◌==◌, All, bytes_eq, codes, if◌then◌else◌, length}}
-use Rattle.std.specs.Prelude.{max, nat_lt, not, unwrap_or}
+use Rattle.std.specs.{List.{list_all, list_any}, Prelude.{◌||◌, ◌==◌, All, bytes_eq, codes, length}}
+use Rattle.std.specs.Prelude.{⊤, max, nat_lt, not, unwrap_or}
 use Rattle.{http_header.specs.Token.lowercase, headers.specs.LineMap.{Field, LineMap}}
 use Rattle.headers.specs.{LineMap.lines_at, Lines.{Line, only_line}, Text.is_text, Typed.HasLine}
 use Rattle.cache_store.specs.{Changes.IsStoredAs, Contents.{Contents, responses_at}}
@@ -13,7 +13,7 @@ use Rattle.cache_store.specs.{declared.lookup.Lookup.TheVariants.ValidateOrServe
 use Rattle.cache_store.specs.{History.{History, IsJustified, Run}, Lookups.{IsAnswer, IsFreshFor, age_of_stored}}
 use Rattle.cache_store.{specs.Lookups.freshness_of, proofs.HistoryLemmas.HasUnder-responses_at}
 use Rattle.{cache_store.proofs.NumberLemmas.Has-numbered, cache_policy.specs.Age.{age_at, apparent_age}}
-use Rattle.cache_policy.specs.{Fields.{age_of, age_value, capped}, Freshening.{freshened, is_kept_name}}
+use Rattle.cache_policy.specs.{Fields.{age_value, capped}, Freshening.{freshened, is_kept_name}}
 use Rattle.cache_policy.specs.{Requests.AllowsMethod, Updating.IsUpdated}
 use Rattle.decide_preconditions.specs.Preconditions.{IsGetOrHead}
 use Rattle.cache_policy.specs.{Requests.Request as Asked, Storing.IsShareable, Targets.governing}
@@ -22,7 +22,7 @@ use Rattle.cache_policy.specs.{Varying.Agree, Policies.{AnswersUnder, MayStoreUn
 use Rattle.cache_rules.{proofs.StoringLemmas.governed_alike, specs.{Selection.IsCandidate, Stored.fields_of_stored}}
 use Rattle.cache_rules.specs.{Freshening.{IsFreshened, aged_anew}, Stored.{request_of_stored, times_of}}
 use Rattle.cache_rules.specs.Storing.{is_lost}
-use Rattle.cache_rules.specs.declared.{freshening.Exchange.Exchange, storing.Reception.Reception}
+use Rattle.cache_rules.specs.declared.freshening.Exchange.{Exchange}
 use Rattle.{cache_rules.specs.declared.stored.StoredResponse.StoredResponse, chain.specs.Caches.{Act, Act.Looks}}
 use Rattle.chain.specs.Caches.{Act.{Confirms, Drops, Takes}, Caching, Fails, HasAfter, HasComeFrom, IsConfirmed}
 use Rattle.chain.specs.Caches.{IsFromStore, IsPlain, IsTrip, Origin, Reply, ServesOnError, asked, calls_of, key_of}
@@ -463,6 +463,10 @@ module _ (law : StoreLaws) {caching : Caching} {origin : Origin} {silent : ℕ �
       → IsRenewing caching origin f.time Says → Held caching origin f.time Says key f.stored
   came Says stores renews = held caching origin f.time Says stores renews key f.stored
       (Looks target request ∷ f.found.acts) f.contents all_acts right.justified
+
+  pub came_somehow : Held caching origin f.time (λ target request sent received stored. ⊤) key f.stored
+  came_somehow = came (λ target request sent received stored. ⊤) (λ target request came stored plain c kept bare. tt)
+      (λ target request confirmed exchange c old new h fits about fresh suits bare. tt)
 
   -- Age of the reply
   abbrev pub counted : ℕ

@@ -7,7 +7,7 @@ use Rattle.headers.specs.LineMap as Encodings
 use Rattle.headers.specs.{LineMap.LineMap, Lines.Line}
 use Rattle.chain.{specs.Ways.{IsSentOn, Reaches, end_to_end_lines, received, sent_directly}}
 use Rattle.chain.proofs.AskingLemmas.{ReadsNoMore}
-use Rattle.rfc_fields.specs.{Members.field_members, Scan.{Member, Member.Whole, pieces, push}}
+use Rattle.rfc_fields.specs.{Members.field_members, Scan.{Member.Whole, pieces, push}}
 use Rattle.gateway_hops.{specs.Arrivals.ArrivalParts, specs.Connections.{ConnectionParts, option_lines, option_text}}
 use Rattle.gateway_hops.{specs.Replaced.{has_field, lines_with_name, replaced_by}, specs.Sent.hop_fields}
 use Rattle.gateway_hops.specs.declared.fields.Forwarding.{Forwarding}
@@ -344,7 +344,8 @@ module _ (reads : ReadsNoMore) (present : ℕ) (resource : Resource) (answer : A
   behind p next last first modern origin few (gateway ∷ gateways) way =
       let directly = reads present resource next (sent_directly gateway next) answer
       (direct gateway next modern origin few) (choose_direct gateway next modern origin few) in
-      let onward = reads present resource (sent_directly gateway next) way.0 answer (alike way.1) (choose_alike way.1) in
+      let onward = reads present resource (sent_directly gateway next) way.0 answer (alike way.1) (choose_alike way.1)
+      in
       behind p way.0 last ((λ h. onward.0 (directly.0 (first.0 h))), (λ h. first.1 (directly.1 (onward.1 h))))
       way.1.passed.protocol way.1.passed.authority (few_options way.1) gateways way.2
 

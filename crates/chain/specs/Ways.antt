@@ -5,7 +5,8 @@ use Rattle.gateway_hops.specs.{Sent.{Hop, IsSent}, declared.request.SentRequest.
 use Rattle.gateway_messages.specs.{FieldLines.{Field, fields_of, lines_under}, Forwarding.replaced}
 use Rattle.gateway_messages.specs.{HopByHop.connection_options, HopByHop.is_hop_by_hop, Requests.IsForwarded}
 use Rattle.gateway_messages.specs.{Requests.Request as Received, declared.gateway.Gateway.Gateway}
-use Rattle.gateway_messages.specs.declared.{expectation.Expectation.TheVariants.Forwarded, protocol.Protocol.TheVariants.Http11}
+use Rattle.gateway_messages.specs.declared.expectation.Expectation.TheVariants.{Forwarded}
+use Rattle.gateway_messages.specs.declared.protocol.Protocol.TheVariants.{Http11}
 use Rattle.gateway_messages.specs.{declared.request.ForwardedRequest.ForwardedRequest}
 use Rattle.decide_resource.specs.Requests.{Request}
 
@@ -20,8 +21,8 @@ received request =
     }
 
 -- The fields that a gateway sends of a request: what is forwarded (`gateway_messages`), or that with the gateway's own
--- fields for the next server, as Connection, Forwarded and X-Forwarded-For (`gateway_hops`). Expect is forwarded, or the
--- request has none.
+-- fields for the next server, as Connection, Forwarded and X-Forwarded-For (`gateway_hops`). Then Expect is forwarded,
+-- or the request has none.
 abbrev pub Sends : Gateway → Request → List Field → Type 0
 Sends gateway request fields =
     ((sent : ForwardedRequest) × IsForwarded gateway (received request) sent × (fields ≡ fields_of sent.fields.items))

@@ -92,20 +92,17 @@ pub fn stored_answer_is_the_answer()
 
 /// Theorem: what a client gets through any gateways and caches is what the resource says about its
 /// request, or what one of them answers by itself. It left the server when the resource said it, or
-/// confirmed by a 304 what a cache on the way had stored, which freshened that. Or later it left a
-/// cache, which found it good enough for a request with this method and Cache-Control: by its policy,
-/// its bound of guesses and the Date that the client gets it was fresh, or each directive allowed it
-/// stale; `stale-if-error` only if those behind that cache failed. The premise on each server is that
-/// its 304s say what has changed: what they are about, whenever it was said, is said now, with the
-/// field lines of the 304. Age,
+/// confirmed by a 304 what a cache had stored. Or later it left a cache on the way, which found it good
+/// enough for a request with this method and Cache-Control: by its policy, its bound of guesses and the
+/// Date that the client gets it was fresh, or each directive allowed it stale; `stale-if-error` only if
+/// those behind that cache failed. By premise, what a 304 is about is said now, with its field lines. Age,
 /// below 2^64 - 1, is short of the time between by at most a second for each cache. The status, the
 /// content and each carried field are the server's. A field is carried if its name has letters, digits
 /// and dashes alone and isn't Close, if it isn't for one connection, and if neither a gateway nor a
 /// cache writes it. An answer of their own has no content, no carried field, and a reason: a rejected
-/// request or response, a request that a gateway keeps, no stored response where the request wants
-/// one, or no answer. It is no statement about a program: a server's content doesn't depend on who
-/// asks, a cache validates by GET alone and serves no ranges, a gateway doesn't answer Expect, and
-/// nothing is said of methods that a server performs.
+/// request or response, one that a gateway keeps, no stored response where the request wants one, or no
+/// answer. It is no statement about a program: a server's content doesn't depend on who asks, a cache
+/// validates by GET alone and serves no ranges, and nothing is said of methods that a server performs.
 pub fn client_gets_what_the_resource_says()
     ensures { (site : Site) (silent : List Hop → ℕ → Bool) (hops : List Hop) (start now : ℕ)
         (target : List ℕ) (request : Request) (reply : Reply)
@@ -123,8 +120,8 @@ pub fn client_gets_what_the_resource_says()
     other_fields_change_nothing();
 }
 
-/// Theorem: such a chain exists. A gateway, a cache and the server of a resource that is gone, which says no 304, give a
-/// client a response whose Age is a second or more, and not the server's: the cache has stored it.
+/// Theorem: such a chain exists. A gateway, a cache and the server of a resource that is gone, which says no 304,
+/// give a client a response whose Age is a second or more, and not the server's: the cache has stored it.
 pub fn a_chain_serves_from_its_store()
     ensures { IsInstance }
 {}
