@@ -1,6 +1,6 @@
 -- What a client receives through gateways and caches is what the resource says.
 use Rattle.std.proofs.Common.{◌≡◌, ◌≢◌, ◌⊎◌, ◌↔◌, ℕ, ◌+◌, ◌<◌, ◌≤◌, Bool, true, false, List, [], ◌∷◌, ◌++◌, Some, None}
-use Rattle.std.proofs.Common.{◌∙◌, ap, append_assoc, subst, sym, inl, inr, arith, option_map, Option, refl, length}
+use Rattle.std.proofs.Common.{◌∙◌, ap, append_assoc, subst, sym, inl, inr, arith, option_map, Option, refl}
 use Rattle.std.proofs.lemmas.{Bool.{cases_Bool, cond_both}, Option.same_Some, Slice.Eq.bytes_eq-Decides}
 use Rattle.std.specs.{List.list_any, Prelude.{All, IsSomeAnd, bytes_eq, codes}}
 use Rattle.{http_header.specs.Token.lowercase, headers.specs.Date.fixdate}
@@ -14,8 +14,8 @@ use Rattle.cache_rules.specs.declared.stored.StoredResponse.{StoredResponse}
 use Rattle.cache_store.specs.{Changes.IsStoredAs, Contents.Contents, History.IsJustified}
 use Rattle.chain.specs.Caches.{Act, Answers, Caching, Clock, HasAfter, HasComeFrom, IsConfirmed, IsFreshenedFor}
 use Rattle.chain.specs.Caches.{IsFromStore, IsPlain, Origin, Reply, asked, calls_of, key_of, second_of, unless_head}
-use Rattle.chain.specs.{Caches.with_conditions, Chains.{Counts, GatewayAnswers, Hop, Hop.{Forwards, Stores}, IsBlank}}
-use Rattle.chain.specs.Chains.{IsForwardedBack, IsGivenUp, IsOwn, IsSentBack, IsTold, Keeps, behind, caches, meant, own}
+use Rattle.chain.specs.{Caches.with_conditions, Chains.{Counts, Hop, Hop.{Forwards, Stores}, IsBlank}}
+use Rattle.chain.specs.Chains.{IsForwardedBack, IsOwn, IsSentBack, IsTold, behind, caches, meant, own}
 use Rattle.chain.specs.{Ways.{IsSentOn, named_host, sent_directly}, Servers.{IsCarried, IsSaid, SaysCloseAtMost}}
 use Rattle.chain.specs.Servers.{SaysWhatHasChanged, Server, Site, renewed}
 use Rattle.chain.proofs.{AskingLemmas.{ReadsNoMore, without_conditions}, ConnectionLemmas.{crosses_if, names_none}}
@@ -27,8 +27,7 @@ use Rattle.chain.proofs.SuitLemmas.{MembersSelect, VaryIsSound, agree_back, suit
 use Rattle.chain.proofs.WayLemmas.{HasFewOptions, IsRead, alike, alike_by, choose_alike, choose_by, choose_direct}
 use Rattle.chain.proofs.WayLemmas.{crosses, differs, direct, few_options, same_lines}
 use Rattle.{rfc_fields.specs.Members.field_members, chain.proofs.StoreLemmas.unlike}
-use Rattle.gateway_messages.specs.{Forwarding.{IsHopByHop, own_names, replaced}, Rejections.status_of}
-use Rattle.gateway_messages.specs.{Spellings.has_mark, declared.rejection.Rejection.Rejection}
+use Rattle.gateway_messages.specs.{Forwarding.{IsHopByHop, own_names, replaced}, Spellings.has_mark}
 use Rattle.gateway_messages.specs.declared.{gateway.Gateway.Gateway, protocol.Protocol.TheVariants.Http11}
 use Rattle.gateway_messages.specs.{Responses.date_unless, HopByHop.{connection_options, is_hop_by_hop, is_known}}
 use Rattle.gateway_messages.specs.HopByHop.{is_named}
@@ -203,6 +202,27 @@ told_for {site = site} {hops = hops} {sent = sent} {came = came} {target = targe
       };
       once = λ has. known.once (h.some has);
     }
+
+-- what is said as a reply leaves the server is told
+told_then : {site : Site} {silent : List Hop → ℕ → Bool} {hops others : List Hop} {sent came start now : ℕ}
+    {target : List ℕ} {r s : Request} {before reply : Reply}
+    → (t : IsTold site silent hops sent came target r before) → t.time ≡ t.left → start ≤ sent → came ≤ now
+    → IsSaid (site (named_host s) target) t.time s reply → SaysCloseAtMost reply.fields
+    → Told site silent others start now target s reply
+told_then t at early late said connection = record {
+  told = record {
+    time = t.time;
+    said = said;
+    left = t.left;
+    since = t.since;
+    after = omega (arith, early, t.after);
+    past = omega (arith, late, t.past);
+    aged = inr (omega (arith, at));
+    good = inl at;
+    connection = connection;
+  };
+  once = λ some. at;
+}
 
 told_by : {site : Site} {silent : List Hop → ℕ → Bool} {hops : List Hop} {sent came : ℕ} {target : List ℕ}
     {r s : Request} {before reply : Reply} → (front : List Hop) (start now : ℕ) → start ≤ sent → came ≤ now
@@ -430,25 +450,38 @@ module _ {clock : Clock} {origin : Origin} {now : ℕ} {target : List ℕ} {requ
 
 -- ---- a 304
 
--- a 304 with a validator isn't about a response without carried fields
+-- a response without carried fields has no validator
+no_line : {lines : List Line} → lines ≡ [] → HasLine lines → ⊥
+no_line none has = let no : 0 < 0 = subst HasLine none has in omega (arith, no)
+
+blank_tag : {reply : Reply} → IsBlank reply → reply.fields (codes "etag") ≡ []
+blank_tag b = b.fields (codes "etag") (carried (codes "etag") refl refl refl (λ e. absurd (cc e)) (λ e. absurd (cc e)))
+
+blank_date : {reply : Reply} → IsBlank reply → reply.fields (codes "last-modified") ≡ []
+blank_date b = b.fields (codes "last-modified")
+    (carried (codes "last-modified") refl refl refl (λ e. absurd (cc e)) (λ e. absurd (cc e)))
+
+unvalidated : {reply : Reply} → IsBlank reply → HasValidator reply.fields → ⊥
+unvalidated b (inl tag) = no_line (blank_tag b) tag
+unvalidated b (inr date) = no_line (blank_date b) date
+
+-- so no 304 with a validator is about it
 no_some : {P : Line → Type 0} (tag : Option Line) → IsSomeAnd tag P → ((line : Line) → P line → ⊥) → ⊥
 no_some None is none = is
 no_some (Some line) is none = none line is
 
-unvalidated : (stored update : LineMap) → stored (codes "etag") ≡ [] → stored (codes "last-modified") ≡ []
-    → IsUpdated stored update → HasValidator update → ⊥
-unvalidated stored update no_tag no_date about (inl tag) =
-    no_some (tag_in update) (about.tag tag) (λ line is. rw no_tag at is)
-unvalidated stored update no_tag no_date about (inr date) = elim (about.date date) [
+not_about : {stored : Reply} (update : LineMap) → IsBlank stored → IsUpdated stored.fields update
+    → HasValidator update → ⊥
+not_about update b about (inl tag) = no_some (tag_in update) (about.tag tag) (λ line is. rw (blank_tag b) at is)
+not_about update b about (inr date) = elim (about.date date) [
   | inl strong ↦ by (update (codes "etag")) refl strong
-  | inr same ↦
-      let none : 0 < 0 = subst (λ (n : ℕ). 0 < n) (ap length (sym same ∙ no_date)) date in omega (arith, none)
+  | inr same ↦ no_line (sym same ∙ blank_date b) date
 ]
   where
     by : (lines : List Line) → update (codes "etag") ≡ lines → HasStrongTag update → ⊥
     by [] none strong = rw none at strong
     by (line ∷ lines) some strong = no_some (tag_in update)
-        (about.tag (subst HasLine (sym some) (omega arith))) (λ line is. rw no_tag at is)
+        (about.tag (subst HasLine (sym some) (omega arith))) (λ line is. rw (blank_tag b) at is)
 
 -- what a 304 makes of a stored response
 freshened_as : (second : ℕ) (full confirmed : Reply) → SaysCloseAtMost confirmed.fields → (name : List ℕ)
@@ -464,53 +497,6 @@ freshened_as second full confirmed at_most name c =
       | inl t ↦ rw (t, not_age, not_date) refl
       | inr f ↦ rw (f, named, not_age, not_date) refl
     ]
-
-no_rejection : (rejection : Rejection) → status_of rejection ≡ 304 → ⊥
-no_rejection Rejection.Loop e = omega (arith, e)
-no_rejection rejection e = omega (arith, e)
-
-unanswered : (status : ℕ) → (status ≡ 502) ⊎ (status ≡ 504) → status ≡ 304 → ⊥
-unanswered status is e = grind arith
-
-given_up : (status : ℕ) → IsGivenUp status → status ≡ 304 → ⊥
-given_up status is e = grind arith
-
-keeps : (gateway : Gateway) (request : Request) (status : ℕ) → Keeps gateway request status → status ≡ 304 → ⊥
-keeps gateway request status (inl h) e = omega (arith, h.1, e)
-keeps gateway request status (inr (inl h)) e = omega (arith, h.1, e)
-keeps gateway request status (inr (inr h)) e = omega (arith, h.1, e)
-
--- no gateway and no cache answers 304 by itself
-module _ (site : Site) (silent : List Hop → ℕ → Bool) where
-  by_gateway : (gateway : Gateway) (origin : Origin) (quiet : ℕ → Bool) (start now : ℕ) (target : List ℕ)
-      (request : Request) (status : ℕ) → GatewayAnswers gateway origin quiet start now target request status
-      → status ≡ 304 → ⊥
-  by_gateway gateway origin quiet start now target request status (inl h) e = no_rejection h.0 (sym h.2 ∙ e)
-  by_gateway gateway origin quiet start now target request status (inr (inl h)) e = omega (arith, h.1, e)
-  by_gateway gateway origin quiet start now target request status (inr (inr (inl h))) e = unanswered status h.1.1 e
-  by_gateway gateway origin quiet start now target request status (inr (inr (inr (inl h)))) e =
-      keeps gateway request status h e
-  by_gateway gateway origin quiet start now target request status (inr (inr (inr (inr h)))) e = given_up status h.1 e
-
-  not_own : (hops : List Hop) (start now : ℕ) (target : List ℕ) (request : Request) (reply : Reply)
-      → own site silent hops start now target request reply → reply.status ≡ 304 → ⊥
-  not_own [] start now target request reply none e = none
-  not_own (Forwards gateway ∷ hops) start now target request reply (inl h) e =
-      let f = h.0 in
-      not_own hops f.passed.sent f.passed.came target f.passed.next f.behind h.1 (sym (status_behind f.back) ∙ e)
-  not_own (Forwards gateway ∷ hops) start now target request reply (inr h) e =
-      by_gateway gateway (behind site silent hops) (silent hops) start now target request reply.status h e
-  not_own (Stores caching ∷ hops) start now target request reply (inl (inl h)) e =
-      not_own hops start now target request reply h e
-  not_own (Stores caching ∷ hops) start now target request reply (inl (inr h)) e = h.4 e
-  not_own (Stores caching ∷ hops) start now target request reply (inr (inl h)) e =
-      let given = h.1 in
-      elim given.given [
-        | inl k ↦ not_own hops given.sent given.came target given.first given.given_reply k (sym given.status ∙ e)
-        | inr k ↦ k.4 (sym given.status ∙ e)
-      ]
-  not_own (Stores caching ∷ hops) start now target request reply (inr (inr (inl h))) e = omega (arith, h.1, e)
-  not_own (Stores caching ∷ hops) start now target request reply (inr (inr (inr h))) e = unanswered _ h.1 e
 
 -- ---- a cache before others
 
@@ -639,9 +625,7 @@ module _ (reads : ReadsNoMore) (heads : HeadIsAsGet) (sound : VaryIsSound) (memb
           told_304 = elim (below c.sent c.received target (with_conditions c.tags c.dates request) confirmed
               c.answered) [
                 | inl t ↦ told_as (turned (asking_meant reads request c.plain c.tags c.dates hops)) t
-                | inr k ↦
-                    absurd (not_own site silent hops c.sent c.received target
-                    (with_conditions c.tags c.dates request) confirmed k.reason c.status)
+                | inr k ↦ absurd (unvalidated k.blank c.validator)
               ]
 
           at_once : told_304.told.time ≡ told_304.told.left
@@ -658,15 +642,8 @@ module _ (reads : ReadsNoMore) (heads : HeadIsAsGet) (sound : VaryIsSound) (memb
             said_304 =
                 let server = site (named_host request) target in
                 let t = told_304.told in
-                let says = changes (named_host request) target in
                 elim (says_here h c.plain fits) [
-                  | inr own ↦
-                      absurd (unvalidated (fields_of_stored old) confirmed.fields
-                      (own.blank.fields (codes "etag") (carried (codes "etag") refl refl refl (λ e. absurd (cc e))
-                      (λ e. absurd (cc e))))
-                      (own.blank.fields (codes "last-modified") (carried (codes "last-modified") refl refl refl
-                      (λ e. absurd (cc e)) (λ e. absurd (cc e))))
-                      about (says.validator t.time (with_conditions c.tags c.dates request) confirmed t.said c.status))
+                  | inr kept ↦ absurd (not_about confirmed.fields kept.blank about c.validator)
                   | inl o ↦
                       let said = subst
                       (λ (lines : List Line). IsSaid (site lines target) o.told.time h.request (reply_of old))
@@ -678,8 +655,8 @@ module _ (reads : ReadsNoMore) (heads : HeadIsAsGet) (sound : VaryIsSound) (memb
                       (fresh.content ∙ sym (got request.method old.content c.method))
                       (λ name d. fresh.fields name
                       ∙ freshened_as exchange.received (reply_of old) confirmed t.connection name d)
-                      (says.changed t.time o.told.time request c.tags c.dates _ confirmed c.method full t.said c.status
-                      about)
+                      (changes (named_host request) target t.time o.told.time request c.tags c.dates _ confirmed
+                      c.method full t.said c.status about)
                 ]
 
         renews : IsRenewing caching origin now Says
@@ -693,24 +670,12 @@ module _ (reads : ReadsNoMore) (heads : HeadIsAsGet) (sound : VaryIsSound) (memb
             c.plain plain (sym first.host) (inl (c.method, inl is_get))
             (agree_back (lines_at new.request) request.fields h.request.fields _ lines suits.fields)
             (said_304 c h fits about fresh) in
-            subst (λ (u : List ℕ). Says u h.request c.sent c.received new) (sym first.target) (inl (
-            record {
-              told = record {
-                time = t.time;
-                said = subst (λ (host : List Line). IsSaid (site host target) t.time h.request (reply_of new))
-                    (sym (host_same c h fits about fresh)) (resaid (λ answer status is. is) refl refl
-                    (sym (got h.request.method new.content is_get)) (λ name d. refl) said);
-                left = t.left;
-                since = t.since;
-                after = t.after;
-                past = t.past;
-                aged = inr (omega (arith, at_once c));
-                good = inl (at_once c);
-                connection = (false, bare (codes "connection") refl);
-              };
-              once = λ some. absurd (some (no_conditions h.plain));
-            }
-            ))
+            subst (λ (u : List ℕ). Says u h.request c.sent c.received new) (sym first.target) (inl
+            (told_then t (at_once c) (omega arith) (omega arith)
+            (subst (λ (host : List Line). IsSaid (site host target) t.time h.request (reply_of new))
+            (sym (host_same c h fits about fresh)) (resaid (λ answer status is. is) refl refl
+            (sym (got h.request.method new.content is_get)) (λ name d. refl) said))
+            (false, bare (codes "connection") refl)))
 
         hold : (key : List ℕ) (stored : StoredResponse) (acts : List Act) (contents : Contents)
             → HasAfter caching origin now acts contents → IsJustified caching.policy key (calls_of acts) stored
@@ -810,28 +775,14 @@ module _ (reads : ReadsNoMore) (heads : HeadIsAsGet) (sound : VaryIsSound) (memb
           (law.1 caching.policy caching.limits (calls_of v.acts) v.contents
           (runs caching origin v.time v.acts v.contents v.has) key v.old v.was) in
           let t = (told_304 v.time c).told in
-          let at = at_once v.time c in
           let none = v.fresh.fields (codes "connection")
           ∙ kept_bare v.exchange.received (fields_of_stored v.old) v.confirmed.fields (codes "connection") refl
           (h.bare (codes "connection") refl) in
-          inl (told_as (plain_meant reads request c.plain hops) (
-          record {
-            told = record {
-              time = t.time;
-              said = resaid (λ answer status is. is) refl v.served.status
-                  (v.served.content ∙ got request.method v.stored.content c.method)
-                  (λ name d. v.served.fields name d.not_age) (said_304 v.time c h v.suits v.about v.fresh);
-              left = t.left;
-              since = t.since;
-              after = omega (arith, v.in_time, t.after);
-              past = omega (arith, t.past, c.trip.past, v.past);
-              aged = inr (omega (arith, at));
-              good = inl at;
-              connection = (false, v.served.fields (codes "connection") (λ e. absurd (cc e)) ∙ none);
-            };
-            once = λ some. at;
-          }
-          ))
+          inl (told_as (plain_meant reads request c.plain hops) (told_then t (at_once v.time c) v.in_time
+          (omega (arith, c.trip.past, v.past)) (resaid (λ answer status is. is) refl v.served.status
+          (v.served.content ∙ got request.method v.stored.content c.method)
+          (λ name d. v.served.fields name d.not_age) (said_304 v.time c h v.suits v.about v.fresh))
+          (false, v.served.fields (codes "connection") (λ e. absurd (cc e)) ∙ none)))
 
       -- a reply to another request comes through as it is
       comes_through : (start now : ℕ) (target : List ℕ) (request : Request) (reply : Reply)

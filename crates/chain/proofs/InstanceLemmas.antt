@@ -423,11 +423,8 @@ never time asks reply said e = by said.answer.reason said.is.first said.is.gives
     by reason first gives = no_304 asks.denied reason (same_Some _ _ (sym gives.has_status ∙ said.status) ∙ e)
 
 says : SaysWhatHasChanged server
-says = record {
-  validator = λ time asks reply said e. absurd (never time asks reply said e);
-  changed = λ time other asks tags dates full confirmed get is said e about.
-      absurd (never time (with_conditions tags dates asks) confirmed said e);
-}
+says time other asks tags dates full confirmed get is said e about =
+    absurd (never time (with_conditions tags dates asks) confirmed said e)
 
 came : HasComeFrom caching.clock origin per_second (codes "/") next stored
 came = record {

@@ -91,6 +91,11 @@ module _ (name : List ℕ) where
         | inr f ↦ rw f (of_own own)
       ]
 
+  none_own : (own : List Encodings.Field) → has_field own name ≡ false → own_lines own ≡ []
+  none_own [] none = refl
+  none_own (field ∷ own) none =
+      let parts = or_parts (bytes_eq field.0 name) (has_field own name) none in rw parts.0 (none_own own parts.1)
+
   module _ (own : List Encodings.Field) where
     left : (fields : List Field) → lines_under (filter (λ field. not (has_field own field.0)) fields) name
         ≡ (if has_field own name then [] else lines_under fields name)
@@ -119,36 +124,28 @@ module _ (name : List ℕ) where
         ∙ ap (λ (ls : List Line). ls ++ lines_under (flat_map lines_with_name own) name) (left fields)
         ∙ ap (λ (ls : List Line). (if has_field own name then [] else lines_under fields name) ++ ls) (of_own own)
 
+but_one : (a b c d e : Bool) → (a || (b || (c || (d || e)))) ≡ false → (a || (b || (c || e))) ≡ false
+but_one a b c d e none = grind (arith, a, b, c, d)
+
 module _ (next : ConnectionParts) (forwarding : Forwarding) (arrival : ArrivalParts) (received : LineMap) where
   abbrev written : Expectation → List Encodings.Field
   written expectation = hop_fields next forwarding arrival expectation received
+
+  has_none : (expectation : Expectation) (name : List ℕ) → IsUnwritten name
+      → has_field (written expectation) name ≡ false
+  has_none Forwarded name un = but_one (bytes_eq (codes "connection") name) (bytes_eq (codes "te") name)
+      (bytes_eq (codes "upgrade") name) (bytes_eq (codes "expect") name) (list_any (λ own. bytes_eq own name)
+      (codes "forwarded" ∷ codes "x-forwarded-for" ∷ codes "x-forwarded-host" ∷ codes "x-forwarded-proto" ∷ [])) un
+  has_none Absent name un = un
+  has_none Answered name un = un
 
   -- where it writes none of the name, what is forwarded stays
   unwritten : (expectation : Expectation) (name : List ℕ) → IsUnwritten name → (fields : List Field)
       → lines_under (replaced_by (written expectation) fields) name ≡ lines_under fields name
   unwritten expectation name un fields =
-      let a = or_parts (bytes_eq (codes "connection") name) _ un in
-      let b = or_parts (bytes_eq (codes "te") name) _ a.1 in
-      let c = or_parts (bytes_eq (codes "upgrade") name) _ b.1 in
-      let d = or_parts (bytes_eq (codes "expect") name) _ c.1 in
-      let e = or_parts (bytes_eq (codes "forwarded") name) _ d.1 in
-      let f = or_parts (bytes_eq (codes "x-forwarded-for") name) _ e.1 in
-      let g = or_parts (bytes_eq (codes "x-forwarded-host") name) _ f.1 in
-      let h = or_parts (bytes_eq (codes "x-forwarded-proto") name) _ g.1 in
+      let none = has_none expectation name un in
       replaced_at name (written expectation) fields
-      ∙ by expectation (a.0, b.0, c.0, d.0) (e.0, f.0, g.0, h.0) (lines_under fields name)
-    where
-      by : (expectation : Expectation)
-          → (bytes_eq (codes "connection") name ≡ false) × (bytes_eq (codes "te") name ≡ false)
-          × (bytes_eq (codes "upgrade") name ≡ false) × (bytes_eq (codes "expect") name ≡ false)
-          → (bytes_eq (codes "forwarded") name ≡ false) × (bytes_eq (codes "x-forwarded-for") name ≡ false)
-          × (bytes_eq (codes "x-forwarded-host") name ≡ false) × (bytes_eq (codes "x-forwarded-proto") name ≡ false)
-          → (lines : List Line)
-          → (if has_field (written expectation) name then [] else lines) ++ own_lines name (written expectation)
-          ≡ lines
-      by Forwarded p q lines = rw (p.0, p.1, p.2, q.0, q.1, q.2, q.3) (append-nil lines)
-      by Absent p q lines = rw (p.0, p.1, p.2, p.3, q.0, q.1, q.2, q.3) (append-nil lines)
-      by Answered p q lines = rw (p.0, p.1, p.2, p.3, q.0, q.1, q.2, q.3) (append-nil lines)
+      ∙ rw (none, none_own name (written expectation) none) (append-nil (lines_under fields name))
 
   connection_written : (expectation : Expectation) (fields : List Field)
       → lines_under (replaced_by (written expectation) fields) (codes "connection")

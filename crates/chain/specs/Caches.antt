@@ -4,7 +4,7 @@ use Rattle.std.specs.{Prelude.{All, Contains, None, Some, bytes_eq, codes, if◌
 use Rattle.headers.specs.{LineMap.{Field, LineMap, lines_at, set_all}, Lines.{Line, only_line}, Text.is_text}
 use Rattle.cache_store.specs.{Contents.{Contents, responses_at}, History.{Call, Call.{Looked, Arrived, Removed}}}
 use Rattle.cache_store.specs.{History.{Call.Validated, HasUnder, History, Step}, Lookups.{IsAnswer, age_of_stored}}
-use Rattle.{cache_store.specs.Served.Serves, cache_policy.specs.Updating.IsUpdated}
+use Rattle.{cache_store.specs.Served.Serves, cache_policy.specs.Updating.{HasValidator, IsUpdated}}
 use Rattle.cache_store.specs.declared.{limits.Limits.Limits, lookup.Lookup.{Lookup, TheVariants.Serve}}
 use Rattle.cache_store.specs.declared.lookup.Lookup.TheVariants.{ServeAndRevalidate, Validate, ValidateOrServe}
 use Rattle.cache_store.specs.{declared.lookup.Lookup.TheVariants.{Unavailable, Forward}, Numbers.numbered}
@@ -162,7 +162,7 @@ pub record HasComeFrom (clock : Clock) (origin : Origin) (now : ℕ) (target : L
   pub answered : Answers origin sent received target request reply
   pub noted : IsNoted request (shown clock sent) reply (shown clock received) came
 
--- The cache sent a plain GET on with some condition, and a 304 came from those behind it.
+-- The cache sent a plain GET on with some condition, and a 304 with a validator came from those behind it.
 pub record IsConfirmed (clock : Clock) (origin : Origin) (now : ℕ) (target : List ℕ) (request : Request)
     (confirmed : Reply) (exchange : Exchange) : Type 0 where
   pub plain : IsPlain target request
@@ -175,6 +175,7 @@ pub record IsConfirmed (clock : Clock) (origin : Origin) (now : ℕ) (target : L
   pub trip : IsTrip clock now sent received
   pub answered : origin sent received target (with_conditions tags dates request) confirmed
   pub status : confirmed.status ≡ 304
+  pub validator : HasValidator confirmed.fields
   pub requested_at : exchange.requested ≡ shown clock sent
   pub received_at : exchange.received ≡ shown clock received
 

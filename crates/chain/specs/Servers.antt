@@ -1,7 +1,7 @@
 -- The server of a resource, and what it says about a request (RFC 9110).
 use Rattle.std.specs.Prelude.{◌≡◌, ◌≢◌, ℕ, Bool, true, false, ◌&&◌, not, List, [], ◌∷◌, All, Option, Some, codes}
 use Rattle.{std.specs.Prelude.{if◌then◌else◌, length, nat_lt}, cache_policy.specs.Freshening.is_kept_name}
-use Rattle.cache_policy.specs.Updating.{HasValidator, IsUpdated}
+use Rattle.cache_policy.specs.Updating.{IsUpdated}
 use Rattle.{http_header.specs.Token.lowercase, headers.specs.{LineMap.{LineMap, fields_of, set, set_all}, Lines.Line}}
 use Rattle.{chain.specs.Caches.{Reply, second_of, unless_head, with_conditions}}
 use Rattle.gateway_messages.specs.Forwarding.{own_names}
@@ -99,12 +99,11 @@ renewed full confirmed =
           then confirmed.fields name else full.fields name;
     }
 
--- A 304 says what has changed. It has a validator. If it is about what the resource said to the same GET at some time
--- (RFC 9111, section 4.3.4), the resource says that now, with the field lines of the 304.
-pub record SaysWhatHasChanged (server : Server) : Type 0 where
-  pub validator : (time : ℕ) (request : Request) (reply : Reply) → IsSaid server time request reply
-      → reply.status ≡ 304 → HasValidator reply.fields
-  pub changed : (time other : ℕ) (request : Request) (tags dates : List Line) (full confirmed : Reply)
-      → request.method ≡ codes "GET" → IsSaid server other request full
-      → IsSaid server time (with_conditions tags dates request) confirmed → confirmed.status ≡ 304
-      → IsUpdated full.fields confirmed.fields → IsSaid server time request (renewed full confirmed)
+-- A 304 says what has changed: if it is about what the resource said to the same GET at some time (RFC 9111, section
+-- 4.3.4), the resource says that now, with the field lines of the 304.
+abbrev pub SaysWhatHasChanged : Server → Type 0
+SaysWhatHasChanged server =
+    (time other : ℕ) (request : Request) (tags dates : List Line) (full confirmed : Reply)
+    → request.method ≡ codes "GET" → IsSaid server other request full
+    → IsSaid server time (with_conditions tags dates request) confirmed → confirmed.status ≡ 304
+    → IsUpdated full.fields confirmed.fields → IsSaid server time request (renewed full confirmed)
