@@ -23,10 +23,10 @@ use Rattle.chain.proofs.ServerLemmas.{same_sent, says_close_at_most}
 use Rattle.chain.proofs.StoreLemmas.{Held, IsRenewing, IsStoring, StoreLaws, age_is, agreed_on, allowed_method, came}
 use Rattle.chain.proofs.StoreLemmas.{counts, good_at, held, is_candidate, kept_bare, once, one, own_method, plain_alike}
 use Rattle.chain.proofs.StoreLemmas.{plain_first, quiet, runs, says_here, with_method}
-use Rattle.chain.proofs.SuitLemmas.{MembersSelect, VaryIsSound, agree_back, suited}
+use Rattle.chain.proofs.SuitLemmas.{MembersSelect, VaryIsSound, agree_back, get_alone, suited}
 use Rattle.chain.proofs.WayLemmas.{HasFewOptions, IsRead, alike, alike_by, choose_alike, choose_by, choose_direct}
 use Rattle.chain.proofs.WayLemmas.{crosses, differs, direct, few_options, same_lines}
-use Rattle.{rfc_fields.specs.Members.field_members, chain.proofs.StoreLemmas.unlike}
+use Rattle.{rfc_fields.specs.Members.field_members, chain.proofs.StoreLemmas.told_apart}
 use Rattle.gateway_messages.specs.{Forwarding.{IsHopByHop, own_names, replaced}, Spellings.has_mark}
 use Rattle.gateway_messages.specs.declared.{gateway.Gateway.Gateway, protocol.Protocol.TheVariants.Http11}
 use Rattle.gateway_messages.specs.{Responses.date_unless, HopByHop.{connection_options, is_hop_by_hop, is_known}}
@@ -491,20 +491,16 @@ freshened_as second full confirmed at_most name c =
     let named : is_named (connection_options confirmed.fields) name ≡ false
     = ap (λ (lines : List Line). is_named (field_members true lines) name) at_most.1
     ∙ names_none at_most.0 name c.not_close in
-    let not_age = unlike (codes "age") name (λ e. c.not_age (sym e)) in
-    let not_date = unlike (codes "date") name (λ e. date_not_carried name c (sym e)) in
+    let apart = told_apart name c.not_age (date_not_carried name c) in
     elim (cases_Bool (is_kept_name name)) [
-      | inl t ↦ rw (t, not_age, not_date) refl
-      | inr f ↦ rw (f, named, not_age, not_date) refl
+      | inl t ↦ rw (t, apart.0, apart.1) refl
+      | inr f ↦ rw (f, named, apart.0, apart.1) refl
     ]
 
 -- ---- a cache before others
 
 got : (method content : List ℕ) → method ≡ codes "GET" → unless_head method content ≡ content
 got method content get = rw get refl
-
-only_get : (m n : List ℕ) → AllowsMethod m n → n ≡ codes "GET" → m ≡ codes "GET"
-only_get m n allows get = grind arith
 
 module _ (reads : ReadsNoMore) (heads : HeadIsAsGet) (sound : VaryIsSound) (members : MembersSelect)
     (law : StoreLaws) where
@@ -664,7 +660,7 @@ module _ (reads : ReadsNoMore) (heads : HeadIsAsGet) (sound : VaryIsSound) (memb
             let t = (told_304 c).told in
             let first = one h c.plain fits in
             let plain = plain_first h c.plain fits in
-            let is_get = only_get h.request.method request.method (allowed_method h c.plain fits) c.method in
+            let is_get = get_alone h.request.method request.method (allowed_method h c.plain fits) c.method in
             let lines = λ (name : List ℕ). sym (ap (λ m. lines_at m name) fresh.request ∙ h.lines name) in
             let said = said_to (site (named_host request) target) t.time target request h.request (reply_of new)
             c.plain plain (sym first.host) (inl (c.method, inl is_get))

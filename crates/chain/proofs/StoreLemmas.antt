@@ -101,12 +101,16 @@ one_key t u r s h k e =
 
 -- ---- how it came
 
--- names that aren't equal are told apart
-pub unlike : (a b : List ℕ) → a ≢ b → bytes_eq a b ≡ false
-unlike a b other = elim (cases_Bool (bytes_eq a b)) [
-  | inl t ↦ absurd (other ((bytes_eq-Decides a b).0 t))
-  | inr f ↦ f
-]
+-- names of no field that a cache writes are told apart from those
+pub told_apart : (name : List ℕ) → name ≢ codes "age" → name ≢ codes "date"
+    → (bytes_eq (codes "age") name ≡ false) × (bytes_eq (codes "date") name ≡ false)
+told_apart name not_age not_date = (by (codes "age") not_age, by (codes "date") not_date)
+  where
+    by : (own : List ℕ) → name ≢ own → bytes_eq own name ≡ false
+    by own other = elim (cases_Bool (bytes_eq own name)) [
+      | inl t ↦ absurd (other (sym ((bytes_eq-Decides own name).0 t)))
+      | inr f ↦ f
+    ]
 
 -- the fields of one connection, and of a proxy, are no fields that a cache writes
 hop_known : (name : List ℕ) → is_known true name ≡ true → (name ≢ codes "age") × (name ≢ codes "date")
@@ -128,11 +132,10 @@ pub kept_bare : (second : ℕ) (stored update : LineMap) (name : List ℕ) → i
     → freshened (aged_anew second stored) update name ≡ []
 kept_bare second stored update name known none =
     let kept = kept_known name known in
-    let not_age = unlike (codes "age") name (λ e. (hop_known name known).0 (sym e)) in
-    let not_date = unlike (codes "date") name (λ e. (hop_known name known).1 (sym e)) in
+    let apart = told_apart name (hop_known name known).0 (hop_known name known).1 in
     elim (cases_Bool (nat_lt 0 (length (update name)))) [
-      | inl t ↦ rw (t, kept, not_age, not_date) none
-      | inr f ↦ rw (f, not_age, not_date) none
+      | inl t ↦ rw (t, kept, apart.0, apart.1) none
+      | inr f ↦ rw (f, apart.0, apart.1) none
     ]
 
 module _ (caching : Caching) (origin : Origin) (now : ℕ) where

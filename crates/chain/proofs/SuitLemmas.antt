@@ -207,6 +207,9 @@ abbrev pub MembersSelect : Type 0
 MembersSelect = (present : ℕ) (resource : Resource) (r s : Request) (answer : Answer) → AreAlike r s
     → SelectTheSame r.fields s.fields → IsAnswer present resource r answer ↔ IsAnswer present resource s answer
 
+pub get_alone : (m n : List ℕ) → AllowsMethod m n → n ≡ codes "GET" → m ≡ codes "GET"
+get_alone m n allows get = grind arith
+
 read_only : (stored method : List ℕ) → AllowsMethod stored method → stored ≢ codes "OPTIONS"
 read_only stored method (inl h) e = absurd (cc (h.0, e))
 read_only stored method (inr h) e = absurd (cc (h.0, e))
