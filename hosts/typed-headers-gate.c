@@ -444,13 +444,26 @@ static void give_piece(struct exchange *exchange) {
     exchange->is_over = typed_headers_gate_end(&exchange->gate) != TYPED_HEADERS_DONE;
 }
 
+/* Writes the field line that says what the pass comes to. Returns its length: 0 if nothing is said. */
+static size_t say_status(const struct exchange *exchange, uint8_t *room, size_t length) {
+    const uint8_t *name = (const uint8_t *)gateway->cache_status;
+    size_t count;
+    if (!name || typed_headers_pass_status(&exchange->pass, name, strlen(gateway->cache_status), room, length, &count))
+        return 0;
+    return count;
+}
+
 /* Begins to give the client the stored response that a step of a pass names. The first piece goes with the head, unless
  * responses before it wait: a client that reads none must not make many of them wait. */
 static void give(struct exchange *exchange, const struct typed_headers_pass_facts *facts) {
     size_t length;
     hurry(&collapsed); /* the pass has ended */
-    if (typed_headers_pass_fields(&exchange->pass, own.buffer, BUFFER, &length) ||
-        typed_headers_gate_respond(&exchange->gate, facts->status, own.buffer, length, facts->count, &own.keys)) {
+    if (typed_headers_pass_fields(&exchange->pass, own.buffer, BUFFER, &length)) {
+        answer(exchange, 502);
+        return;
+    }
+    length += say_status(exchange, own.buffer + length, BUFFER - length);
+    if (typed_headers_gate_respond(&exchange->gate, facts->status, own.buffer, length, facts->count, &own.keys)) {
         answer(exchange, 502);
         return;
     }
@@ -536,6 +549,7 @@ static void take_response(struct exchange *exchange) {
         facts.action = exchange->is_validating ? TYPED_HEADERS_ASK : TYPED_HEADERS_PASS_ON;
         abandon_pass(exchange);
     }
+    length = say_status(exchange, own.buffer, BUFFER);
     switch (facts.action) {
     case TYPED_HEADERS_PASS_ON_TO_END: exchange->is_storing = true; break;
     case TYPED_HEADERS_PASS_ON: close_pass(exchange); break;
@@ -549,6 +563,8 @@ static void take_response(struct exchange *exchange) {
         follow(exchange, &facts);
         return;
     }
+    if (length > 0)
+        typed_headers_gate_add(&exchange->gate, own.buffer, length, &own.keys); /* out of memory, it isn't said */
     if (typed_headers_gate_pass(&exchange->gate))
         exchange->is_over = true;
 }

@@ -1981,6 +1981,13 @@ uint8_t typed_headers_pass_fields(const struct typed_headers_pass *pass, uint8_t
                                   size_t *written);
 
 /*
+ * The field line of Cache-Status (RFC 9211) for the pass. It names the cache so. Ask after the step that names what is
+ * sent. Refused: the name isn't visible ASCII and spaces. Absent: the pass is closed. Memory: nothing is rejected.
+ */
+uint8_t typed_headers_pass_status(const struct typed_headers_pass *pass, const uint8_t *name, size_t name_length,
+                                  uint8_t *room, size_t room_length, size_t *written);
+
+/*
  * The request that validates what a pass has sent stale: its field lines, each with a LF (RFC 5861, section 3). A new
  * pass, which answers nobody, begins with it, of the same method and target, and it is forwarded so. Its fields are the
  * client's, without conditions and Range; and Cache-Control says `no-cache` alone, and `no-store` if the client's says
@@ -2221,6 +2228,14 @@ uint8_t typed_headers_gate_end(struct typed_headers_gate *gate);
  */
 uint8_t typed_headers_gate_response(struct typed_headers_gate *gate, uint16_t *status, uint8_t *room,
                                     size_t room_length, size_t *written);
+
+/*
+ * Adds field lines to the origin's response that waits. They go after those that are forwarded, in place of any that
+ * were added before. Refused: none waits; a line of the section before its first empty one is no field; or one frames
+ * the message, is for one connection, or has a name that the gateway writes itself. Memory: the handle is open.
+ */
+uint8_t typed_headers_gate_add(struct typed_headers_gate *gate, const uint8_t *section, size_t section_length,
+                               const struct typed_headers_keys *keys);
 
 /* Passes the origin's response that waits on. */
 uint8_t typed_headers_gate_pass(struct typed_headers_gate *gate);

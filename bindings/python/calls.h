@@ -395,6 +395,8 @@ CALL(pass_came, MAY(REFUSED) | MAY(ABSENT) | MAY(TOO_LARGE) | MAY(NO_MEMORY), (a
 CALL(pass_failed, MAY(ABSENT) | MAY(NO_MEMORY), (at[0].handle.at, at[1].handle.at, at[2].u64, &at[3].any.pass_facts),
      OF_HANDLE(OPENED, cache), OF_HANDLE(OPENED, pass), OF_KIND(NUMBER, U64), OF_SHAPE(OUT_STRUCT, pass_facts))
 CALL(pass_fields, MAY(ABSENT), (at[0].handle.at, ROOM(at[1])), OF_HANDLE(OPENED, pass), PLAIN(ROOM_OF_BYTES))
+CALL(pass_status, MAY(REFUSED) | MAY(ABSENT) | MAY(NO_MEMORY), (at[0].handle.at, TEXT_OF(at[1]), ROOM(at[2])),
+     OF_HANDLE(OPENED, pass), PLAIN(GIVEN_TEXT), PLAIN(ROOM_OF_BYTES))
 CALL(pass_validation, MAY(ABSENT) | MAY(TOO_LARGE) | MAY(NO_MEMORY), (at[0].handle.at, ROOM(at[1])),
      OF_HANDLE(OPENED, pass), PLAIN(ROOM_OF_BYTES))
 CALL(pass_content, MAY(ABSENT), (at[0].handle.at, at[1].size, ROOM(at[2])), OF_HANDLE(OPENED, pass),
@@ -465,6 +467,8 @@ CALL(gate_push, MAY(REFUSED) | MAY(ABSENT) | MAY(NO_MEMORY), (at[0].handle.at, T
 CALL(gate_end, MAY(REFUSED) | MAY(ABSENT) | MAY(NO_MEMORY), (at[0].handle.at), OF_HANDLE(OPENED, gate))
 CALL(gate_response, MAY(ABSENT) | MAY(NO_MEMORY), (at[0].handle.at, &at[1].u16, ROOM(at[2])),
      OF_HANDLE(OPENED, gate), OF_KIND(OUT_NUMBER, U16), PLAIN(ROOM_OF_BYTES))
+CALL(gate_add, MAY(REFUSED) | MAY(ABSENT) | MAY(TOO_LARGE) | MAY(NO_MEMORY), (at[0].handle.at, TEXT_OF(at[1]),
+     &keys), OF_HANDLE(OPENED, gate), PLAIN(GIVEN_TEXT))
 CALL(gate_pass, MAY(ABSENT), (at[0].handle.at), OF_HANDLE(OPENED, gate))
 CALL(gate_piece, MAY(ABSENT), (at[0].handle.at, ROOM(at[1])), OF_HANDLE(OPENED, gate), PLAIN(ROOM_OF_BYTES))
 CALL(gate_take, MAY(REFUSED) | MAY(ABSENT) | MAY(NO_MEMORY), (at[0].handle.at, at[1].handle.at),

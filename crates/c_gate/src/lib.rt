@@ -13,7 +13,7 @@ mod opening;
 mod reading;
 mod routing;
 
-pub use crate::answering::{answer, end, pass, push, respond};
+pub use crate::answering::{add, answer, end, pass, push, respond};
 pub use crate::connecting::{connect_to, connected};
 pub use crate::forwarding::{again, closes_after, forward, set_conditions, take_origin};
 pub use crate::moving::{

@@ -1149,6 +1149,14 @@ extern "C" {
     ) -> u8;
     pub fn typed_headers_pass_failed(cache: *mut Cache, pass: *mut Pass, now: u64, facts: *mut PassFacts) -> u8;
     pub fn typed_headers_pass_fields(pass: *const Pass, room: *mut u8, room_length: usize, written: *mut usize) -> u8;
+    pub fn typed_headers_pass_status(
+        pass: *const Pass,
+        name: *const u8,
+        name_length: usize,
+        room: *mut u8,
+        room_length: usize,
+        written: *mut usize,
+    ) -> u8;
     pub fn typed_headers_pass_validation(
         pass: *const Pass,
         room: *mut u8,
@@ -1268,6 +1276,7 @@ extern "C" {
         room_length: usize,
         written: *mut usize,
     ) -> u8;
+    pub fn typed_headers_gate_add(gate: *mut Gate, section: *const u8, section_length: usize, keys: *const Keys) -> u8;
     pub fn typed_headers_gate_pass(gate: *mut Gate) -> u8;
     pub fn typed_headers_gate_piece(gate: *mut Gate, room: *mut u8, room_length: usize, written: *mut usize) -> u8;
     pub fn typed_headers_gate_take(gate: *mut Gate, origin: *mut GateOrigin) -> u8;

@@ -55,7 +55,8 @@ returns-in_err-number-in-Ok c =
         place = search rules;
         shown = refl;
         text = refl;
-        beside = record { keys = refl; most = refl };
+        standing = refl;
+        beside = record { keys = refl; most = refl; guess = refl };
       },
     ))
 
@@ -71,5 +72,6 @@ returns c = record {
   place = search rules;
   shown = search rules;
   text = search rules;
-  beside = record { keys = search rules; most = search rules };
+  standing = search rules;
+  beside = record { keys = search rules; most = search rules; guess = search rules };
 }
