@@ -1,7 +1,7 @@
 /* Passes HTTP/1.1 requests on to origin servers, and stores what they answer: typed-headers-gate(1).
  *
- * The library reads the messages of both sides, and gives each byte that goes to either. This program moves bytes,
- * finds an origin, and keeps time. It decides nothing about HTTP.
+ * The library reads the messages of both sides, gives each byte that goes to either, and chooses the connection that a
+ * request goes out on. This program moves bytes, and keeps time. It decides nothing about HTTP.
  *
  * A worker owns a cache, its clients' connections, and those to origins. An exchange is a client's connection; it owns
  * the connection to the origin that it uses. One that isn't used waits in the list of its origin. */
@@ -62,6 +62,7 @@ struct upstream {
     struct typed_headers_gate_origin connection; /* open if no exchange has it */
     struct exchange *exchange;                   /* NULL if it is idle */
     size_t origin;
+    uint64_t number; /* in the pool of its group */
     bool is_connected;
 };
 
@@ -73,7 +74,8 @@ struct exchange {
     struct proxy_header *header; /* NULL unless one is awaited */
     const struct entrance *entrance;
     struct address client, told; /* who has the connection, and of whom that tells */
-    uint64_t tried;              /* the origins that failed for this request, a bit each */
+    size_t group;                /* of origins, that its request is for */
+    uint64_t request;            /* its number */
     uint64_t begun;              /* when the request came */
     size_t target;               /* the group that has the target of a CONNECT alone; 0 for other requests */
     uint64_t date;               /* the second that its gateway knows */
@@ -90,18 +92,10 @@ struct exchange {
     bool is_behind;     /* bytes waited for the client after the last step */
     bool is_storing;    /* the pass gets what passes */
     bool is_validating; /* the origin is asked by the conditions of the cache */
-    bool repeats;       /* by a new connection */
+    bool has_failed;    /* on a connection, as the pool knows */
     bool is_tunnel;
     bool is_over;   /* nothing more is said */
     bool has_moved; /* something was received or sent since it waits */
-};
-
-/* What is known of an origin. */
-struct health {
-    size_t in_use, failures;
-    uint64_t failed_until;
-    struct queue idle;
-    size_t idle_count;
 };
 
 /* What an exchange waits for, and so how long it may: a header of the PROXY protocol, a request, its head, the answer,
@@ -112,8 +106,10 @@ static struct {
     struct typed_headers_gate_rules rules;
     struct typed_headers_cache cache;
     struct typed_headers_keys keys;
-    struct health health[MOST_ORIGINS];
-    struct exchange *driven; /* that whose turn it is */
+    struct typed_headers_gate_pool pools[MOST_GROUPS];
+    struct queue kept[MOST_ORIGINS]; /* the idle connections to each origin */
+    uint64_t requests;               /* so many came */
+    struct exchange *driven;         /* that whose turn it is */
     size_t turn_bytes;
     uint8_t buffer[BUFFER];
 } own;
@@ -166,10 +162,22 @@ static void conclude(struct exchange *exchange, uint16_t status) {
         if (gateway->hosting.log != NO_LOG)
             log_line(exchange, status);
     }
-    exchange->is_asked = false;
+    if (exchange->has_failed)
+        typed_headers_gate_pool_finished(&own.pools[exchange->group], exchange->request);
+    exchange->is_asked = exchange->has_failed = false;
 }
 
 /* ---- Connections to origins ---- */
+
+static struct typed_headers_gate_pool *pool_at(size_t origin) { return &own.pools[gateway->origins[origin].group]; }
+
+/* Where the origin with this number in its group is among all. */
+static size_t place_of(size_t group, size_t number) {
+    size_t place = 0;
+    while (gateway->origins[place].group != group || number-- > 0)
+        place++;
+    return place;
+}
 
 static void end_tls(struct end *end) {
     if (end->tls)
@@ -178,13 +186,9 @@ static void end_tls(struct end *end) {
 }
 
 static void close_upstream(struct upstream *upstream) {
-    struct health *health = &own.health[upstream->origin];
-    if (upstream->exchange) {
+    if (upstream->exchange)
         upstream->exchange->upstream = NULL;
-        health->in_use--;
-    } else {
-        health->idle_count--;
-    }
+    typed_headers_gate_pool_gone(pool_at(upstream->origin), upstream->number);
     end_tls(&upstream->end);
     typed_headers_gate_origin_free(&upstream->connection);
     close_source(&upstream->end.source);
@@ -197,93 +201,74 @@ static void keep_upstream(struct exchange *exchange) {
     struct upstream *upstream = exchange->upstream;
     if (!upstream)
         return;
-    struct health *health = &own.health[upstream->origin];
+    uint8_t is_kept = 0;
     if (typed_headers_gate_take(&exchange->gate, &upstream->connection) != TYPED_HEADERS_DONE ||
-        upstream->end.is_broken || worker.is_stopping || gateway->keep_time == 0 ||
-        health->idle_count >= gateway->most_kept || !watch(&upstream->end.source, EPOLLIN)) {
+        upstream->end.is_broken || worker.is_stopping || !watch(&upstream->end.source, EPOLLIN) ||
+        typed_headers_gate_pool_release(pool_at(upstream->origin), upstream->number, &is_kept) || !is_kept) {
         close_upstream(upstream);
         return;
     }
     exchange->upstream = NULL;
     upstream->exchange = NULL;
-    health->in_use--;
-    health->idle_count++;
-    wait_in(&upstream->end.source, &health->idle);
+    wait_in(&upstream->end.source, &own.kept[upstream->origin]);
 }
 
 static void close_kept(struct source *source) { close_upstream((struct upstream *)source); }
 
-/* Takes the connection that is idle for the shortest time, or none. */
-static struct upstream *take_kept(size_t origin) {
-    struct health *health = &own.health[origin];
-    struct upstream *upstream;
+/* Takes the idle connection with this number. Returns NULL, and closes it, if it ended just now or has bytes. */
+static struct upstream *take_kept(size_t origin, uint64_t number) {
+    struct upstream *upstream = (struct upstream *)first_in(&own.kept[origin]);
     uint8_t byte;
-    while ((upstream = (struct upstream *)last_in(&health->idle))) {
-        if (recv(upstream->end.source.socket, &byte, 1, MSG_PEEK) < 0 && errno == EAGAIN) {
-            wait_in(&upstream->end.source, NULL);
-            health->idle_count--;
-            return upstream;
-        }
-        close_upstream(upstream); /* it ended just now */
+    while (upstream->number != number)
+        upstream = (struct upstream *)upstream->end.source.after;
+    if (recv(upstream->end.source.socket, &byte, 1, MSG_PEEK) < 0 && errno == EAGAIN) {
+        wait_in(&upstream->end.source, NULL);
+        return upstream;
     }
+    close_upstream(upstream);
     return NULL;
 }
 
-static bool is_failed(size_t origin) { return own.health[origin].failed_until > worker.now; }
-
-/* The origin of a group that has the fewest connections in use, of those that didn't fail lately, or else of all.
- * MOST_ORIGINS if each was tried. */
-static size_t choose_origin(size_t group, uint64_t tried) {
-    size_t best = MOST_ORIGINS;
-    for (size_t i = 0; i < gateway->origin_count; i++) {
-        if (gateway->origins[i].group != group || tried >> i & 1)
-            continue;
-        if (best == MOST_ORIGINS || (is_failed(best) && !is_failed(i)) ||
-            (is_failed(best) == is_failed(i) && own.health[i].in_use < own.health[best].in_use))
-            best = i;
+/* Notes that an origin failed, and that this request is to go to another one. */
+static void note_failure(struct exchange *exchange, size_t origin, uint64_t number, const char *why) {
+    exchange->has_failed = true;
+    if (typed_headers_gate_pool_failed(pool_at(origin), number, worker.now)) { /* out of memory */
+        typed_headers_gate_pool_gone(pool_at(origin), number);
+        exchange->is_over = true;
     }
-    return best;
+    count_event(ORIGIN_FAILURES);
+    complain_of(gateway->origins[origin].text, why);
 }
 
-/* Begins a connection to an origin. Returns NULL, with errno, if that fails at once. */
-static struct upstream *begin_upstream(struct exchange *exchange, size_t place) {
+/* Begins the connection with this number to an origin. Returns false if that fails at once. */
+static bool begin_upstream(struct exchange *exchange, size_t place, uint64_t number) {
     const struct origin *origin = &gateway->origins[place];
     int made = socket(origin->address.any.sa_family, SOCK_STREAM | SOCK_NONBLOCK | SOCK_CLOEXEC, 0);
     struct upstream *upstream = made < 0 ? NULL : calloc(1, sizeof *upstream);
     if (!upstream) {
+        note_failure(exchange, place, number, strerror(errno));
         if (made >= 0)
             close_descriptor(made);
-        return NULL;
+        return false;
     }
     upstream->end.source = (struct source){.socket = made, .ready = on_origin};
     upstream->exchange = exchange;
     upstream->origin = place;
+    upstream->number = number;
     exchange->upstream = upstream;
-    own.health[place].in_use++;
     if (origin->address.any.sa_family != AF_UNIX)
         setsockopt(made, IPPROTO_TCP, TCP_NODELAY, &(int){1}, sizeof(int)); /* it goes without */
     if ((connect(made, &origin->address.any, origin->length) && errno != EINPROGRESS) ||
         (origin->name && !(upstream->end.tls = tls_connect(site.trust, made, origin->name))) ||
         typed_headers_gate_origin_new(&upstream->connection, gateway->most_head, &own.keys) ||
         !watch(&upstream->end.source, EPOLLOUT)) {
-        int error = errno;
+        note_failure(exchange, place, number, strerror(errno));
         close_upstream(upstream);
-        errno = error;
-        return NULL;
+        return false;
     }
     count_event(ORIGIN_CONNECTIONS);
     wait_in(&upstream->end.source, &connecting);
-    return upstream;
-}
-
-/* Notes that an origin failed, and that this request is to go to another one. */
-static void note_failure(struct exchange *exchange, size_t origin, const char *why) {
-    struct health *health = &own.health[origin];
-    exchange->tried |= 1ull << origin;
-    count_event(ORIGIN_FAILURES);
-    if (++health->failures >= MOST_FAILURES)
-        health->failed_until = worker.now + FAILED_TIME;
-    complain_of(gateway->origins[origin].text, why);
+    return true;
 }
 
 /* ---- Requests ---- */
@@ -351,32 +336,38 @@ static size_t group_asked(struct exchange *exchange) {
 
 /* Finds a connection for the request that waits. It goes out over one that is idle at once. */
 static void ask_origin(struct exchange *exchange) {
-    size_t group = exchange->target ? exchange->target : group_asked(exchange), origin;
+    size_t group = exchange->group = exchange->target ? exchange->target : group_asked(exchange);
+    struct typed_headers_gate_lease lease;
     if (group == MOST_GROUPS) {
         abandon_pass(exchange);
         answer(exchange, 404);
         return;
     }
-    while ((origin = choose_origin(group, exchange->tried)) < MOST_ORIGINS) {
-        struct upstream *upstream = exchange->repeats ? NULL : take_kept(origin);
+    while (!exchange->is_over &&
+           !typed_headers_gate_pool_lease(&own.pools[group], exchange->request, worker.now, 0, &lease) &&
+           lease.kind <= TYPED_HEADERS_LEASE_OPEN) {
+        size_t origin = place_of(group, lease.origin);
+        if (lease.kind == TYPED_HEADERS_LEASE_OPEN) {
+            if (begin_upstream(exchange, origin, lease.connection))
+                return;
+            continue;
+        }
+        struct upstream *upstream = take_kept(origin, lease.connection);
         if (upstream) {
             upstream->exchange = exchange;
             exchange->upstream = upstream;
-            own.health[origin].in_use++;
             count_event(ORIGIN_REUSES);
             forward(exchange, upstream);
             return;
         }
-        if (begin_upstream(exchange, origin))
-            return;
-        note_failure(exchange, origin, strerror(errno));
     }
-    fail(exchange, exchange->failure);
+    if (!exchange->is_over)
+        fail(exchange, exchange->failure);
 }
 
 static void fail_upstream(struct upstream *upstream, const char *why) {
     struct exchange *exchange = upstream->exchange;
-    note_failure(exchange, upstream->origin, why);
+    note_failure(exchange, upstream->origin, upstream->number, why);
     close_upstream(upstream);
     ask_origin(exchange);
     drive(exchange);
@@ -402,7 +393,7 @@ static void connect_on(struct upstream *upstream) {
     if (why) {
         fail_upstream(upstream, why);
     } else if (is_done) {
-        own.health[upstream->origin].failures = 0;
+        typed_headers_gate_pool_opened(pool_at(upstream->origin), upstream->number);
         forward(upstream->exchange, upstream);
         drive(upstream->exchange);
     } else if (!watch(&upstream->end.source, tls_wants_output(upstream->end.tls) ? EPOLLOUT : EPOLLIN)) {
@@ -749,11 +740,11 @@ static bool begin_connect(struct exchange *exchange) {
 
 static void begin_request(struct exchange *exchange) {
     exchange->begun = worker.now;
-    exchange->tried = exchange->passed = exchange->target = 0;
+    exchange->request = own.requests++;
+    exchange->passed = exchange->target = 0;
     exchange->status = 0;
     exchange->failure = 502;
     exchange->cached = NO_CACHE;
-    exchange->repeats = false;
     exchange->is_asked = true;
     if (!exchange->is_own)
         count_event(REQUESTS);
@@ -775,12 +766,20 @@ static bool is_looking(const struct exchange *exchange) {
     return upstream ? !upstream->is_connected : exchange->end.source.queue == &collapsed;
 }
 
-/* Asks again, over a new connection. */
+/* Asks again: over a new connection, if that of the request ended. */
 static void repeat_request(struct exchange *exchange) {
-    if (exchange->upstream)
-        close_upstream(exchange->upstream);
-    exchange->repeats = true;
-    ask_origin(exchange);
+    struct upstream *upstream = exchange->upstream;
+    uint8_t goes_again = 1;
+    if (upstream) {
+        exchange->has_failed = true;
+        if (typed_headers_gate_pool_ended(pool_at(upstream->origin), upstream->number, &goes_again))
+            goes_again = 0;
+        close_upstream(upstream);
+    }
+    if (goes_again)
+        ask_origin(exchange);
+    else
+        fail(exchange, 502);
 }
 
 /* The response has ended, or is asked for again. */
@@ -1077,6 +1076,20 @@ static void open_cache(void) {
         DIE("no cache: %s", typed_headers_status_text(status));
 }
 
+static void open_pools(void) {
+    for (size_t group = 0; group < gateway->group_count; group++) {
+        struct typed_headers_gate_pool_options options = {.failures = MOST_FAILURES,
+                                                          .pause = FAILED_TIME,
+                                                          .most = UINT64_MAX,
+                                                          .idle = gateway->keep_time ? gateway->most_kept : 0};
+        for (size_t i = 0; i < gateway->origin_count; i++)
+            options.origins += gateway->origins[i].group == group;
+        uint8_t status = typed_headers_gate_pool_new(&own.pools[group], &options);
+        if (status != TYPED_HEADERS_DONE)
+            DIE("no pool: %s", typed_headers_status_text(status));
+    }
+}
+
 void begin_worker(void) {
     add_queue(&greeting, gateway->head_time * 1000, greet_late, false);
     add_queue(&idle, gateway->idle_time * 1000, end_slow, true);
@@ -1086,7 +1099,8 @@ void begin_worker(void) {
     add_queue(&collapsed, WAIT_TIME, resume, false);
     add_queue(&connecting, gateway->connect_time * 1000, connect_late, false);
     for (size_t i = 0; i < gateway->origin_count; i++)
-        add_queue(&own.health[i].idle, gateway->keep_time * 1000, close_kept, false);
+        add_queue(&own.kept[i], gateway->keep_time * 1000, close_kept, false);
+    open_pools();
     fill_randomly(&own.keys, sizeof own.keys);
     open_rules();
     if (gateway->cache_bytes > 0)
@@ -1101,8 +1115,10 @@ void end_worker(void) {
     while (first_in(&connecting))
         close_exchange(((struct upstream *)first_in(&connecting))->exchange, true);
     for (size_t i = 0; i < gateway->origin_count; i++)
-        while (first_in(&own.health[i].idle))
-            close_kept(first_in(&own.health[i].idle));
+        while (first_in(&own.kept[i]))
+            close_kept(first_in(&own.kept[i]));
+    for (size_t group = 0; group < gateway->group_count; group++)
+        typed_headers_gate_pool_free(&own.pools[group]);
     typed_headers_cache_free(&own.cache);
     typed_headers_gate_rules_free(&own.rules);
 }

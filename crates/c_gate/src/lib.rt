@@ -10,6 +10,7 @@ mod connecting;
 mod forwarding;
 mod moving;
 mod opening;
+pub mod pool;
 mod reading;
 mod routing;
 

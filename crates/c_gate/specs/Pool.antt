@@ -1,0 +1,62 @@
+-- Calls on the connections to origins that a handle has.
+use Rattle.std.specs.Prelude.{◌≡◌, ℕ, is_some, Option, Some, None, Result, Ok, Err}
+use Rattle.gateway_pool.specs.{Choices.IsLease, declared.pool.{Lease.Lease, PoolRules.PoolRules}}
+use Rattle.gateway_pool.specs.declared.pool.Lease.TheVariants.{Reuse, Open, NoOrigin, Full}
+use Rattle.gateway_pool.specs.Pools.{Event, Event.{Ended, Leased, Released}, PoolState, goes_again, happens, may_keep}
+use Rattle.gateway_pool.specs.Pools.{named, start, state_of}
+use Rattle.c_parts.specs.declared.status.Failure.{Failure, TheVariants.{Memory, Absent}}
+use Rattle.c_decisions.specs.Flags.flag_of
+use Rattle.c_handles.specs.declared.held.{Held.Held, Held.TheVariants as held}
+use Rattle.c_gate.specs.declared.pool.{LeaseFacts.LeaseFacts, PoolOptions.PoolOptions}
+
+-- An open handle of a pool stays open, and this becomes of it. Any other stays as it was, and the answer is `Absent`.
+abbrev pub OnPool : {V : Type 0} → (PoolState → PoolState → Result V Failure → Type 0) → (old new : Option Held)
+    → Result V Failure → Type 0
+OnPool P (Some (held.GatePool old)) (Some (held.GatePool new)) answer = P (state_of old) (state_of new) answer
+OnPool P (Some (held.GatePool old)) other answer = ⊥
+OnPool P old new answer = (answer ≡ Err Absent) × (new ≡ old)
+
+abbrev pub rules_of : PoolOptions → PoolRules
+rules_of given = record {
+  failures = given.failures;
+  pause = given.pause;
+  most = given.most;
+  idle = given.idle;
+  hashes = given.hashes;
+}
+
+abbrev pub IsPoolHeld : PoolOptions → Result Held Failure → Type 0
+IsPoolHeld given (Ok (held.GatePool pool)) = state_of pool ≡ start (rules_of given) given.origins
+IsPoolHeld given (Ok other) = ⊥
+IsPoolHeld given (Err failure) = failure ≡ Memory
+
+abbrev pub facts_of : Lease → LeaseFacts
+facts_of (Reuse number origin) = record { connection = number; origin = origin; kind = 0 }
+facts_of (Open number origin) = record { connection = number; origin = origin; kind = 1 }
+facts_of NoOrigin = record { connection = 0; origin = 0; kind = 2 }
+facts_of Full = record { connection = 0; origin = 0; kind = 3 }
+
+abbrev pub Leases : (request now key : ℕ) → PoolState → PoolState → Result LeaseFacts Failure → Type 0
+Leases request now key old new (Ok facts) = (lease : Lease) × (facts ≡ facts_of lease)
+    × IsLease request now key lease old × (new ≡ happens (Leased request now key lease) old)
+Leases request now key old new (Err failure) = (failure ≡ Memory) × (new ≡ old)
+
+-- this happens
+abbrev pub Goes : Event → PoolState → PoolState → Result (Unit {0}) Failure → Type 0
+Goes event old new (Ok tt) = new ≡ happens event old
+Goes event old new (Err failure) = ⊥
+
+-- this happens, or out of memory nothing does
+abbrev pub MayGo : Event → PoolState → PoolState → Result (Unit {0}) Failure → Type 0
+MayGo event old new (Ok tt) = new ≡ happens event old
+MayGo event old new (Err failure) = (failure ≡ Memory) × (new ≡ old)
+
+abbrev pub Ends : ℕ → PoolState → PoolState → Result ℕ Failure → Type 0
+Ends connection old new (Ok again) =
+    (again ≡ flag_of (is_some (goes_again connection old))) × (new ≡ happens (Ended connection) old)
+Ends connection old new (Err failure) = (failure ≡ Memory) × (new ≡ old)
+
+abbrev pub Releases : ℕ → PoolState → PoolState → Result ℕ Failure → Type 0
+Releases connection old new (Ok kept) =
+    (kept ≡ flag_of (may_keep (named connection old) old)) × (new ≡ happens (Released connection) old)
+Releases connection old new (Err failure) = ⊥
