@@ -528,15 +528,16 @@ enum { MOST_SLOTS = 9 };
     METHOD(connection_plan_bytes), METHOD(connection_plan_range), METHOD(connection_respond), \
     METHOD(connection_output), METHOD(connection_range), METHOD(connection_sent), METHOD(connection_time_out), \
     METHOD(connection_rejection), METHOD(connection_planned), METHOD(pass_free), METHOD(pass_begin), \
-    METHOD(pass_resume), METHOD(pass_came), METHOD(pass_failed), METHOD(pass_fields), METHOD(pass_validation), \
-    METHOD(pass_content), METHOD(pass_received), METHOD(pass_ended), METHOD(files_free), METHOD(files_new), \
-    METHOD(files_path), METHOD(files_plan), METHOD(gate_rules_free), METHOD(gate_free), METHOD(gate_origin_free), \
-    METHOD(gate_rules_new), METHOD(gate_new), METHOD(gate_origin_new), METHOD(gate_next), METHOD(gate_receive), \
-    METHOD(gate_finish), METHOD(gate_output), METHOD(gate_sent), METHOD(gate_clock), METHOD(gate_timed_out), \
-    METHOD(gate_close_after), METHOD(gate_method), METHOD(gate_target), METHOD(gate_authority), METHOD(gate_key), \
-    METHOD(gate_field), METHOD(gate_fields), METHOD(gate_is_for), METHOD(gate_connect_to), METHOD(gate_connected), \
-    METHOD(gate_conditions), METHOD(gate_forward), METHOD(gate_again), METHOD(gate_answer), METHOD(gate_respond), \
-    METHOD(gate_push), METHOD(gate_end), METHOD(gate_response), METHOD(gate_pass), METHOD(gate_piece), \
-    METHOD(gate_take), METHOD(gate_own), METHOD(gate_tunnel), METHOD(gate_ask), METHOD(gate_pool_free), \
-    METHOD(gate_pool_new), METHOD(gate_pool_lease), METHOD(gate_pool_opened), METHOD(gate_pool_failed), \
-    METHOD(gate_pool_ended), METHOD(gate_pool_release), METHOD(gate_pool_gone), METHOD(gate_pool_finished)
+    METHOD(pass_resume), METHOD(pass_came), METHOD(pass_failed), METHOD(pass_fields), METHOD(pass_status), \
+    METHOD(pass_validation), METHOD(pass_content), METHOD(pass_received), METHOD(pass_ended), METHOD(files_free), \
+    METHOD(files_new), METHOD(files_path), METHOD(files_plan), METHOD(gate_rules_free), METHOD(gate_free), \
+    METHOD(gate_origin_free), METHOD(gate_rules_new), METHOD(gate_new), METHOD(gate_origin_new), METHOD(gate_next), \
+    METHOD(gate_receive), METHOD(gate_finish), METHOD(gate_output), METHOD(gate_sent), METHOD(gate_clock), \
+    METHOD(gate_timed_out), METHOD(gate_close_after), METHOD(gate_method), METHOD(gate_target), \
+    METHOD(gate_authority), METHOD(gate_key), METHOD(gate_field), METHOD(gate_fields), METHOD(gate_is_for), \
+    METHOD(gate_connect_to), METHOD(gate_connected), METHOD(gate_conditions), METHOD(gate_forward), \
+    METHOD(gate_again), METHOD(gate_answer), METHOD(gate_respond), METHOD(gate_push), METHOD(gate_end), \
+    METHOD(gate_response), METHOD(gate_add), METHOD(gate_pass), METHOD(gate_piece), METHOD(gate_take), \
+    METHOD(gate_own), METHOD(gate_tunnel), METHOD(gate_ask), METHOD(gate_pool_free), METHOD(gate_pool_new), \
+    METHOD(gate_pool_lease), METHOD(gate_pool_opened), METHOD(gate_pool_failed), METHOD(gate_pool_ended), \
+    METHOD(gate_pool_release), METHOD(gate_pool_gone), METHOD(gate_pool_finished)
