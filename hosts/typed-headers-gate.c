@@ -74,10 +74,9 @@ struct exchange {
     struct proxy_header *header; /* NULL unless one is awaited */
     const struct entrance *entrance;
     struct address client, told; /* who has the connection, and of whom that tells */
-    size_t group;                /* of origins, that its request is for */
-    uint64_t request;            /* its number */
-    uint64_t begun;              /* when the request came */
-    size_t target;               /* the group that has the target of a CONNECT alone; 0 for other requests */
+    size_t group;                /* of origins, that the request is for; MOST_GROUPS for none */
+    uint64_t request;            /* the number of the request */
+    uint64_t begun;              /* when it came */
     uint64_t date;               /* the second that its gateway knows */
     uint64_t given, left;        /* where the content of the pass goes on, and how much is left of it */
     uint64_t passed;             /* bytes of content that the client gets */
@@ -92,7 +91,6 @@ struct exchange {
     bool is_behind;     /* bytes waited for the client after the last step */
     bool is_storing;    /* the pass gets what passes */
     bool is_validating; /* the origin is asked by the conditions of the cache */
-    bool has_failed;    /* on a connection, as the pool knows */
     bool is_tunnel;
     bool is_over;   /* nothing more is said */
     bool has_moved; /* something was received or sent since it waits */
@@ -106,7 +104,7 @@ static struct {
     struct typed_headers_gate_rules rules;
     struct typed_headers_cache cache;
     struct typed_headers_keys keys;
-    struct typed_headers_gate_pool pools[MOST_GROUPS];
+    struct typed_headers_gate_pool pools[ALL_GROUPS];
     struct queue kept[MOST_ORIGINS]; /* the idle connections to each origin */
     uint64_t requests;               /* so many came */
     struct exchange *driven;         /* that whose turn it is */
@@ -162,9 +160,9 @@ static void conclude(struct exchange *exchange, uint16_t status) {
         if (gateway->hosting.log != NO_LOG)
             log_line(exchange, status);
     }
-    if (exchange->has_failed)
+    if (exchange->is_asked)
         typed_headers_gate_pool_finished(&own.pools[exchange->group], exchange->request);
-    exchange->is_asked = exchange->has_failed = false;
+    exchange->is_asked = false;
 }
 
 /* ---- Connections to origins ---- */
@@ -215,23 +213,8 @@ static void keep_upstream(struct exchange *exchange) {
 
 static void close_kept(struct source *source) { close_upstream((struct upstream *)source); }
 
-/* Takes the idle connection with this number. Returns NULL, and closes it, if it ended just now or has bytes. */
-static struct upstream *take_kept(size_t origin, uint64_t number) {
-    struct upstream *upstream = (struct upstream *)first_in(&own.kept[origin]);
-    uint8_t byte;
-    while (upstream->number != number)
-        upstream = (struct upstream *)upstream->end.source.after;
-    if (recv(upstream->end.source.socket, &byte, 1, MSG_PEEK) < 0 && errno == EAGAIN) {
-        wait_in(&upstream->end.source, NULL);
-        return upstream;
-    }
-    close_upstream(upstream);
-    return NULL;
-}
-
 /* Notes that an origin failed, and that this request is to go to another one. */
 static void note_failure(struct exchange *exchange, size_t origin, uint64_t number, const char *why) {
-    exchange->has_failed = true;
     if (typed_headers_gate_pool_failed(pool_at(origin), number, worker.now)) { /* out of memory */
         typed_headers_gate_pool_gone(pool_at(origin), number);
         exchange->is_over = true;
@@ -243,22 +226,16 @@ static void note_failure(struct exchange *exchange, size_t origin, uint64_t numb
 /* Begins the connection with this number to an origin. Returns false if that fails at once. */
 static bool begin_upstream(struct exchange *exchange, size_t place, uint64_t number) {
     const struct origin *origin = &gateway->origins[place];
-    int made = socket(origin->address.any.sa_family, SOCK_STREAM | SOCK_NONBLOCK | SOCK_CLOEXEC, 0);
-    struct upstream *upstream = made < 0 ? NULL : calloc(1, sizeof *upstream);
+    struct upstream *upstream = calloc(1, sizeof *upstream);
     if (!upstream) {
         note_failure(exchange, place, number, strerror(errno));
-        if (made >= 0)
-            close_descriptor(made);
         return false;
     }
-    upstream->end.source = (struct source){.socket = made, .ready = on_origin};
-    upstream->exchange = exchange;
-    upstream->origin = place;
-    upstream->number = number;
+    int made = socket(origin->address.any.sa_family, SOCK_STREAM | SOCK_NONBLOCK | SOCK_CLOEXEC, 0);
+    *upstream = (struct upstream){
+        .end.source = {.socket = made, .ready = on_origin}, .exchange = exchange, .origin = place, .number = number};
     exchange->upstream = upstream;
-    if (origin->address.any.sa_family != AF_UNIX)
-        setsockopt(made, IPPROTO_TCP, TCP_NODELAY, &(int){1}, sizeof(int)); /* it goes without */
-    if ((connect(made, &origin->address.any, origin->length) && errno != EINPROGRESS) ||
+    if (made < 0 || (connect(made, &origin->address.any, origin->length) && errno != EINPROGRESS) ||
         (origin->name && !(upstream->end.tls = tls_connect(site.trust, made, origin->name))) ||
         typed_headers_gate_origin_new(&upstream->connection, gateway->most_head, &own.keys) ||
         !watch(&upstream->end.source, EPOLLOUT)) {
@@ -266,6 +243,8 @@ static bool begin_upstream(struct exchange *exchange, size_t place, uint64_t num
         close_upstream(upstream);
         return false;
     }
+    if (origin->address.any.sa_family != AF_UNIX)
+        setsockopt(made, IPPROTO_TCP, TCP_NODELAY, &(int){1}, sizeof(int)); /* it goes without */
     count_event(ORIGIN_CONNECTIONS);
     wait_in(&upstream->end.source, &connecting);
     return true;
@@ -311,13 +290,32 @@ static void fail(struct exchange *exchange, uint16_t status) {
     }
 }
 
+static bool is_connect(const struct exchange *exchange) { return exchange->group > MOST_GROUPS; }
+
 static void forward(struct exchange *exchange, struct upstream *upstream) {
     upstream->is_connected = true;
     upstream->end.is_readable = upstream->end.tls != NULL; /* OpenSSL may hold bytes already; otherwise epoll tells */
     wait_in(&upstream->end.source, NULL);
-    if (exchange->target ? typed_headers_gate_connected(&exchange->gate)
-                         : typed_headers_gate_forward(&exchange->gate, &upstream->connection))
+    if (is_connect(exchange) ? typed_headers_gate_connected(&exchange->gate)
+                             : typed_headers_gate_forward(&exchange->gate, &upstream->connection))
         exchange->is_over = true;
+}
+
+/* Forwards over the idle connection with this number. Returns false, and closes it, if it has ended or has bytes. */
+static bool reuse_upstream(struct exchange *exchange, size_t origin, uint64_t number) {
+    struct upstream *upstream = (struct upstream *)first_in(&own.kept[origin]);
+    uint8_t byte;
+    while (upstream->number != number)
+        upstream = (struct upstream *)upstream->end.source.after;
+    if (recv(upstream->end.source.socket, &byte, 1, MSG_PEEK) >= 0 || errno != EAGAIN) {
+        close_upstream(upstream);
+        return false;
+    }
+    upstream->exchange = exchange;
+    exchange->upstream = upstream;
+    count_event(ORIGIN_REUSES);
+    forward(exchange, upstream);
+    return true;
 }
 
 /* The group of the first route that the request is for, or MOST_GROUPS. */
@@ -334,32 +332,21 @@ static size_t group_asked(struct exchange *exchange) {
     return gateway->route_count || !gateway->group_count ? MOST_GROUPS : 0; /* without routes the first gets all */
 }
 
-/* Finds a connection for the request that waits. It goes out over one that is idle at once. */
+/* Does what the pool says, until the request that waits has a connection, which goes on at once if it was idle. */
 static void ask_origin(struct exchange *exchange) {
-    size_t group = exchange->group = exchange->target ? exchange->target : group_asked(exchange);
     struct typed_headers_gate_lease lease;
-    if (group == MOST_GROUPS) {
+    if (exchange->group == MOST_GROUPS && (exchange->group = group_asked(exchange)) == MOST_GROUPS) {
         abandon_pass(exchange);
         answer(exchange, 404);
         return;
     }
     while (!exchange->is_over &&
-           !typed_headers_gate_pool_lease(&own.pools[group], exchange->request, worker.now, 0, &lease) &&
+           !typed_headers_gate_pool_lease(&own.pools[exchange->group], exchange->request, worker.now, 0, &lease) &&
            lease.kind <= TYPED_HEADERS_LEASE_OPEN) {
-        size_t origin = place_of(group, lease.origin);
-        if (lease.kind == TYPED_HEADERS_LEASE_OPEN) {
-            if (begin_upstream(exchange, origin, lease.connection))
-                return;
-            continue;
-        }
-        struct upstream *upstream = take_kept(origin, lease.connection);
-        if (upstream) {
-            upstream->exchange = exchange;
-            exchange->upstream = upstream;
-            count_event(ORIGIN_REUSES);
-            forward(exchange, upstream);
+        size_t origin = place_of(exchange->group, lease.origin);
+        if (lease.kind == TYPED_HEADERS_LEASE_OPEN ? begin_upstream(exchange, origin, lease.connection)
+                                                   : reuse_upstream(exchange, origin, lease.connection))
             return;
-        }
     }
     if (!exchange->is_over)
         fail(exchange, exchange->failure);
@@ -732,7 +719,7 @@ static bool begin_connect(struct exchange *exchange) {
     uint64_t number;
     uint8_t status = typed_headers_gate_connect_to(&exchange->gate, targets, strlen(gateway->targets), &number);
     if (status == TYPED_HEADERS_DONE) {
-        exchange->target = MOST_GROUPS + 1 + number;
+        exchange->group = MOST_GROUPS + 1 + number;
         ask_origin(exchange);
     }
     return status != TYPED_HEADERS_ABSENT;
@@ -741,8 +728,8 @@ static bool begin_connect(struct exchange *exchange) {
 static void begin_request(struct exchange *exchange) {
     exchange->begun = worker.now;
     exchange->request = own.requests++;
-    exchange->passed = exchange->target = 0;
-    exchange->status = 0;
+    exchange->group = MOST_GROUPS;
+    exchange->passed = exchange->status = 0;
     exchange->failure = 502;
     exchange->cached = NO_CACHE;
     exchange->is_asked = true;
@@ -771,9 +758,8 @@ static void repeat_request(struct exchange *exchange) {
     struct upstream *upstream = exchange->upstream;
     uint8_t goes_again = 1;
     if (upstream) {
-        exchange->has_failed = true;
         if (typed_headers_gate_pool_ended(pool_at(upstream->origin), upstream->number, &goes_again))
-            goes_again = 0;
+            goes_again = 0; /* out of memory */
         close_upstream(upstream);
     }
     if (goes_again)
@@ -799,7 +785,7 @@ static void end_request(struct exchange *exchange, uint8_t phase) {
 
 static void begin_tunnel(struct exchange *exchange) {
     if (exchange->is_asked)
-        conclude(exchange, exchange->target ? 200 : 101);
+        conclude(exchange, is_connect(exchange) ? 200 : 101);
     abandon_pass(exchange);
     exchange->is_tunnel = true;
     exchange->is_over = typed_headers_gate_tunnel(&exchange->gate) != TYPED_HEADERS_DONE;
@@ -1077,14 +1063,14 @@ static void open_cache(void) {
 }
 
 static void open_pools(void) {
-    for (size_t group = 0; group < gateway->group_count; group++) {
+    for (size_t group = 0; group < ALL_GROUPS; group++) {
         struct typed_headers_gate_pool_options options = {.failures = MOST_FAILURES,
                                                           .pause = FAILED_TIME,
                                                           .most = UINT64_MAX,
                                                           .idle = gateway->keep_time ? gateway->most_kept : 0};
         for (size_t i = 0; i < gateway->origin_count; i++)
             options.origins += gateway->origins[i].group == group;
-        uint8_t status = typed_headers_gate_pool_new(&own.pools[group], &options);
+        uint8_t status = options.origins ? typed_headers_gate_pool_new(&own.pools[group], &options) : 0;
         if (status != TYPED_HEADERS_DONE)
             DIE("no pool: %s", typed_headers_status_text(status));
     }
@@ -1117,7 +1103,7 @@ void end_worker(void) {
     for (size_t i = 0; i < gateway->origin_count; i++)
         while (first_in(&own.kept[i]))
             close_kept(first_in(&own.kept[i]));
-    for (size_t group = 0; group < gateway->group_count; group++)
+    for (size_t group = 0; group < ALL_GROUPS; group++)
         typed_headers_gate_pool_free(&own.pools[group]);
     typed_headers_cache_free(&own.cache);
     typed_headers_gate_rules_free(&own.rules);
