@@ -964,7 +964,8 @@ class Applications(unittest.TestCase):
     def test_trailers(self) -> None:
         announced, passed = (b"Trailer", b"Server-Timing"), [(b"Server-Timing", b"a;dur=1"), (b"server-timing", b"b")]
         dropped = [(b"Content-Length", b"9"), (b"X-A", b"b"), (b"ETag", b'"1"'), (b"Signature", b"a"), (b"Via", b"1 b")]
-        for scope in ({}, {"headers": [(b"host", b"a")]}):
+        scopes: List[Dict[str, Any]] = [{}, {"headers": [(b"host", b"a")]}]
+        for scope in scopes:
             start, body, end, trailers = self.trailed([*dropped, *passed], announced, **scope)
             self.assertEqual((start["trailers"], body["body"], end["body"]), (True, b"hello", b""))
             fields = [(b"server-timing", b"a;dur=1"), (b"server-timing", b"b")]
