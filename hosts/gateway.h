@@ -7,13 +7,8 @@
 
 #include <sys/un.h>
 
-enum {
-    MOST_ORIGINS = 64,
-    MOST_GROUPS = 32,
-    MOST_ROUTES = 128,
-    MOST_TRUSTED = 64,
-    ALL_GROUPS = MOST_GROUPS + 1 + MOST_ORIGINS, /* those that are named, none, and one for each target of CONNECT */
-};
+enum { MOST_ORIGINS = 64, MOST_GROUPS = 32, MOST_ROUTES = 128, MOST_TRUSTED = 64 };
+enum { ALL_GROUPS = MOST_GROUPS + 1 + MOST_ORIGINS }; /* those with a name, none, and one for each target of CONNECT */
 
 /* What comes to an address. */
 struct entrance {
