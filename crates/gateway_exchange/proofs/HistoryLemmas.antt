@@ -15,7 +15,7 @@ use Rattle.gateway_messages.specs.Responses as Responses
 use Rattle.gateway_exchange.specs.{Passing.{IsSwitched, answered, head_lines}, Decisions.IsDecision}
 use Rattle.gateway_messages.specs.{Responses.{IsForwardedResponse, is_known_to}, declared.protocol.Protocol.Protocol}
 use Rattle.gateway_messages.specs.declared.protocol.Protocol.TheVariants as Speaks
-use Rattle.gateway_parts.specs.Messages.{protocol_of}
+use Rattle.gateway_exchange.specs.Messages.{protocol_of}
 use Rattle.server_stream.specs.Exchanges.{Answer, Bare, Begun, Exchange, Final, Response, Switched}
 use Rattle.server_stream.specs.History as Stream
 use Rattle.server_stream.specs.Steps as StreamSteps
@@ -25,7 +25,7 @@ use Rattle.gateway_exchange.specs.History.{AreServed, HasHead, IsFor, IsGiven, I
 use Rattle.gateway_exchange.specs.History.{Added, Addition, AreAdded, IsForwarded}
 use Rattle.gateway_exchange.specs.History.{AreInterim, AreInterimNow, IsInterim, IsSwitch, own_interim, EndsAs}
 use Rattle.gateway_exchange.specs.History.{GivenHead, IsDecided, IsFrontOf, IsServedNow, Served, Traffic, Uses}
-use Rattle.gateway_exchange.specs.History.{WentOver, head_of, no_past, on_last, receives, traffic_of, writes}
+use Rattle.gateway_exchange.specs.History.{WentOver, head_of, on_last, receives, traffic_of, writes}
 use Rattle.gateway_exchange.specs.History.{written_of, IsReached, OriginIn, Past, Opened, Received, Finished, Written}
 use Rattle.gateway_exchange.specs.History.{OriginReceived, OriginFinished, OriginWritten, Said, Sent, Conditioned}
 use Rattle.gateway_exchange.specs.History.{Answered, Again, Connected, Given, GivenPiece, GivenEnd, NotGiven, NotBegun}
@@ -48,7 +48,7 @@ use Rattle.gateway_exchange.specs.declared.{date.OwnDate.OwnDate, own.Own.Own, p
 use Rattle.{gateway_exchange.specs.declared.rules.GatewayRules.GatewayRules, http1_typed.specs.Parts.reason_of}
 use Rattle.{http1.specs.declared.conn.BodySize.TheVariants.Known, gateway_messages.specs.FieldLines.fields_of}
 use Rattle.gateway_messages.specs.declared.{gateway.Gateway.Gateway, response.ForwardedResponse.ForwardedResponse}
-use Rattle.gateway_parts.specs.Messages.{request_size, response_size}
+use Rattle.gateway_exchange.specs.Messages.{request_size, response_size}
 use Rattle.gateway_connection.specs.declared.event.OriginEvent.TheVariants as Comes
 use Rattle.gateway_connection.specs.declared.event.OriginFault.TheVariants as Faults
 use Rattle.gateway_exchange.specs.declared.event.GatewayEvent.TheVariants as Tells

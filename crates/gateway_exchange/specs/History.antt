@@ -5,7 +5,7 @@ use Rattle.{http_header.specs.{FieldValue.FieldValue, HeaderMap.Entries}, http1.
 use Rattle.http1.specs.declared.conn.{BodySize.{BodySize, TheVariants.Known}, Limits.Limits}
 use Rattle.{http1.specs.declared.error.WriteError.WriteError, http1_typed.specs.Parts.reason_of}
 use Rattle.gateway_messages.specs.{FieldLines.fields_of, Responses.IsForwardedResponse}
-use Rattle.{gateway_parts.specs.Messages.response_size, gateway_connection.specs.Exchanges.Request}
+use Rattle.{gateway_exchange.specs.Messages.response_size, gateway_connection.specs.Exchanges.Request}
 use Rattle.gateway_connection.specs.declared.event.OriginResponse.{OriginResponse}
 use Rattle.gateway_connection.specs.History as Origin
 use Rattle.gateway_connection.specs.Steps as OriginSteps

@@ -1,9 +1,9 @@
 -- Messages on their way from one connection to the other.
-use Rattle.std.specs.Prelude.{◌≡◌, ◌≢◌, ◌⊎◌, ⊤, ℕ, Bool, true, false, List, [], ◌∷◌, ◌++◌, Option, Some, None, codes}
-use Rattle.std.specs.{Prelude.{◌||◌, bytes_eq, map, not, option_map, option_to_list}, List.{list_all, list_any}}
+use Rattle.std.specs.Prelude.{◌≡◌, ◌≢◌, ◌⊎◌, ⊤, ℕ, Bool, List, [], ◌∷◌, ◌++◌, Option, Some, codes}
+use Rattle.std.specs.{Prelude.{◌||◌, bytes_eq, not, option_map, option_to_list}, List.{list_all, list_any}}
 use Rattle.http_header.specs.FieldValue.{FieldValue}
-use Rattle.{http_header.specs.HeaderMap.Entries, headers.specs.{LineMap.{Field, LineMap, lines_at}, Lines.Line}}
-use Rattle.http1.specs.{Client.request_refusal, Conn.finish_refusal, Fields.Header}
+use Rattle.{http_header.specs.HeaderMap.Entries, headers.specs.{LineMap.{Field, LineMap, lines_at}}}
+use Rattle.http1.specs.{Conn.finish_refusal, Fields.Header}
 use Rattle.http1.specs.declared.error.WriteError.{WriteError}
 use Rattle.http1.specs.declared.error.WriteError.TheVariants as Write
 use Rattle.http1.specs.Server.{informational_refusal, response_refusal, upgrade_refusal}
@@ -12,7 +12,7 @@ use Rattle.gateway_messages.specs.{FieldLines.{fields_of, lines_under}, Forwardi
 use Rattle.gateway_messages.specs.{HopByHop.hop_by_hop_fields, Trailers.ForwardsTrailers}
 use Rattle.gateway_messages.specs.Responses as Answers
 use Rattle.gateway_messages.specs.Responses.{IsDiscarded, IsForwardedResponse, RejectsResponse}
-use Rattle.gateway_messages.specs.declared.{field_line.FieldLine.FieldLine, framing.Framing.Framing}
+use Rattle.gateway_messages.specs.declared.{framing.Framing.Framing}
 use Rattle.gateway_messages.specs.declared.{gateway.Gateway.Gateway, response.ForwardedResponse.ForwardedResponse}
 use Rattle.gateway_hops.{specs.Connections.connection_fields, specs.Replaced.replaced_by}
 use Rattle.gateway_connection.specs.declared.{event.OriginResponse.OriginResponse}
@@ -20,7 +20,7 @@ use Rattle.gateway_connection.specs.declared.{origin.OriginConnection.OriginConn
 use Rattle.gateway_connection.specs.Steps as Origin
 use Rattle.server_stream.specs.Steps as Stream
 use Rattle.server_stream.specs.declared.connection.StreamConnection.{StreamConnection}
-use Rattle.gateway_parts.specs.Messages.{protocol_of, request_size, response_size}
+use Rattle.gateway_exchange.specs.Messages.{protocol_of, request_size, response_size}
 use Rattle.gateway_exchange.specs.{Decisions.offering, Own.closing, declared.decision.AskedRequest.AskedRequest}
 use Rattle.gateway_exchange.specs.declared.{own.Own.Own, pass.Heard.Heard}
 use Rattle.gateway_exchange.specs.declared.own.Own.TheVariants as Because

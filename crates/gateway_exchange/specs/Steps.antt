@@ -1,12 +1,12 @@
 -- What each call does.
-use Rattle.std.specs.Prelude.{◌≡◌, ◌≢◌, ◌⊎◌, ⊤, ℕ, ◌+◌, ◌<◌, ◌≤◌, Bool, true, false, ◌&&◌, ◌||◌, not, List, [], ◌∷◌}
-use Rattle.std.specs.Prelude.{length, Option, Some, None, codes, if◌then◌else◌, min, option_map}
+use Rattle.std.specs.Prelude.{◌≡◌, ◌≢◌, ◌⊎◌, ⊤, ℕ, ◌<◌, Bool, true, false, ◌&&◌, ◌||◌, not, List, [], ◌∷◌}
+use Rattle.std.specs.Prelude.{length, Option, Some, None, codes, min, option_map}
 use Rattle.std.specs.Global.{Vec}
 use Rattle.{http_header.specs.{FieldValue.FieldValue, HeaderMap.Entries}, http1.specs.Conn.data_refusal}
 use Rattle.http1.specs.{Conn.finish_refusal, Fields.Header, Server.{informational_refusal, response_refusal}}
 use Rattle.http1.specs.{Server.upgrade_refusal, declared.conn.{BodySize.BodySize, Limits.Limits}}
 use Rattle.{http1.specs.declared.error.WriteError.WriteError, gateway_messages.specs.FieldLines.fields_of}
-use Rattle.gateway_messages.specs.Responses.{IsDiscarded, IsForwardableResponse, IsForwardedResponse, RejectsResponse}
+use Rattle.gateway_messages.specs.Responses.{IsDiscarded, IsForwardedResponse, RejectsResponse}
 use Rattle.gateway_messages.specs.declared.expectation.Expectation.{Expectation, TheVariants.Answered}
 use Rattle.gateway_messages.specs.declared.{field_line.FieldLine.FieldLine, rejection.Rejection.Rejection}
 use Rattle.gateway_messages.specs.declared.response.ContentFraming.{ContentFraming, TheVariants.Absent}
@@ -26,7 +26,7 @@ use Rattle.gateway_exchange.specs.Passing.{RefusesResponse, RefusesResponseEnd, 
 use Rattle.gateway_exchange.specs.{Passing.{are_addable, with_conditions}}
 use Rattle.gateway_exchange.specs.declared.connection.GatewayConnection.{GatewayConnection}
 use Rattle.gateway_exchange.specs.declared.{connection.Stage.Stage, decision.AskedRequest.AskedRequest}
-use Rattle.gateway_exchange.specs.declared.decision.{Outgoing.Outgoing, RequestDecision.RequestDecision}
+use Rattle.gateway_exchange.specs.declared.decision.{RequestDecision.RequestDecision}
 use Rattle.gateway_exchange.specs.declared.event.{GatewayEvent.GatewayEvent, ExchangePhase.ExchangePhase, Wants.Wants}
 use Rattle.gateway_exchange.specs.declared.{date.OwnDate.OwnDate, own.Own.Own, pass.Heard.Heard, rules.Peer.Peer}
 use Rattle.gateway_exchange.specs.declared.{rules.GatewayRules.GatewayRules, tunnel.TheConstants.MOST_WAITING}

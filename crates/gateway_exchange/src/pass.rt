@@ -13,6 +13,7 @@ ghost use Rattle.std.specs.{Prelude.bytes_eq, List.list_any};
 ghost use Rattle.gateway_exchange.specs.Steps.{Begins, RefusesBegin};
 
 use crate::decision::AskedRequest;
+use crate::message::{header_list, protocol_of, request_size, response_size};
 use crate::own::{Own, close_if};
 use crate::rules::next_connection;
 use decide_handshake::{Checked, check};
@@ -22,7 +23,6 @@ use gateway_messages::{
     FieldLine, ForwardedResponse, Gateway, MessageHead, Rejection, ResponseHead, ResponseOutcome,
     forward_response, forward_trailers,
 };
-use gateway_parts::{header_list, protocol_of, request_size, response_size};
 use headers::{Date, Encoded, HeaderMap, HeaderName, HeaderValue};
 use http::StatusCode;
 use http_header::{IF_MODIFIED_SINCE, IF_NONE_MATCH};

@@ -1,6 +1,6 @@
 //! The target of a request (RFC 9112, section 3.2).
 ghost use Rattle.std.{specs.Prelude.{◌≡◌, IfOk}, specs.List.list_all};
-ghost use Rattle.gateway_parts.specs.Targets.{is_target_byte, origin_form, target_of, target_parts};
+ghost use Rattle.gateway_exchange.specs.Targets.{is_target_byte, origin_form, target_of, target_parts};
 
 use bytes::{Bytes, BytesMut};
 use gateway_messages::{authority_len, scheme_len};
@@ -8,11 +8,11 @@ use std::alloc::{AllocError, Global};
 
 /// The parts of a target.
 #[derive(Clone, Copy)]
-pub struct TargetParts<'a> {
+pub(crate) struct TargetParts<'a> {
     /// The authority, if the target is in absolute-form.
-    pub authority: Option<&'a [u8]>,
+    pub(crate) authority: Option<&'a [u8]>,
     /// What follows it.
-    pub path: &'a [u8],
+    pub(crate) path: &'a [u8],
 }
 
 fn is_target_byte(byte: u8) -> bool
@@ -29,7 +29,7 @@ fn are_target_bytes(target: &[u8]) -> bool
 
 /// The parts of a target in origin-form, absolute-form or asterisk-form. `None` if it is in no such form,
 /// or in asterisk-form though the method isn't OPTIONS, or has a fragment or a byte that isn't visible ASCII.
-pub fn target_of(is_options: bool, target: &[u8]) -> Option<TargetParts<'_>>
+pub(crate) fn target_of(is_options: bool, target: &[u8]) -> Option<TargetParts<'_>>
     ensures { target_parts result ≡ target_of is_options target.now }
 {
     if !are_target_bytes(target) {
@@ -54,7 +54,7 @@ pub fn target_of(is_options: bool, target: &[u8]) -> Option<TargetParts<'_>>
 }
 
 /// The target that is sent to the origin server: an empty path is sent as `/`, or for OPTIONS as `*`.
-pub fn origin_form(
+pub(crate) fn origin_form(
     alloc: Global,
     is_options: bool,
     target: &TargetParts<'_>,

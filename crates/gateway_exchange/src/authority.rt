@@ -1,7 +1,7 @@
 //! The authority of a request (RFC 9112, section 3.2; RFC 9110, section 7.2).
 ghost use Rattle.std.specs.Prelude.{◌≡◌, IfOk, option_map};
 ghost use Rattle.headers.specs.LineMap.{lines_at};
-ghost use Rattle.gateway_parts.specs.Authorities.{HasHostValue, given_host};
+ghost use Rattle.gateway_exchange.specs.Authorities.{HasHostValue, given_host};
 
 use gateway_messages::{Protocol, has_host};
 use headers::{HeaderMap, HeaderValue};
@@ -11,7 +11,7 @@ use std::hash::RandomState;
 
 /// The authority as a value of Host. `None` if it is no host and maybe a port. The keys are for a header
 /// map. Fails only if an allocation fails.
-pub fn host_value(
+pub(crate) fn host_value(
     alloc: Global,
     keys: RandomState,
     authority: &[u8],
@@ -35,7 +35,7 @@ pub fn host_value(
 
 /// The Host that takes the place of the received one, or that a request of HTTP/1.0 lacks: the authority
 /// of its target, or the origin server's.
-pub fn given_authority<'a>(
+pub(crate) fn given_authority<'a>(
     origin: &'a HeaderValue,
     fields: &HeaderMap,
     authority: Option<&'a HeaderValue>,

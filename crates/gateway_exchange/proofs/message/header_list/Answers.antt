@@ -1,6 +1,6 @@
 use Rattle.std.proofs.{Common.{[], ◌∷◌, ◌++◌, take, sym, ap, ◌∙◌}, lemmas.List.{map_push, map_more}}
 use Rattle.{http1.specs.Head.{header_parts, pairs}, gateway_messages.specs.FieldLines.fields_of}
-use Rattle.gateway_parts.proofs.message.header_list.Goals as goal
+use Rattle.gateway_exchange.proofs.message.header_list.Goals as goal
 
 pub loop-field-preserved : goal.loop-field-preserved
 loop-field-preserved c =

@@ -2,14 +2,14 @@
 ghost use Rattle.std.specs.Prelude.{◌≡◌, IfOk};
 ghost use Rattle.http1.specs.Head.{pairs};
 ghost use Rattle.gateway_messages.specs.FieldLines.{fields_of};
-ghost use Rattle.gateway_parts.specs.Messages.{protocol_of, request_size, response_size};
+ghost use Rattle.gateway_exchange.specs.Messages.{protocol_of, request_size, response_size};
 
 use gateway_messages::{ContentFraming, FieldLine, Framing, Protocol};
 use http1::{BodySize, Header};
 use std::alloc::{AllocError, Global};
 
 /// The version of HTTP with this minor version.
-pub fn protocol_of(minor: u8) -> Protocol
+pub(crate) fn protocol_of(minor: u8) -> Protocol
     ensures { result ≡ protocol_of minor }
 {
     if minor == 0 {
@@ -20,7 +20,7 @@ pub fn protocol_of(minor: u8) -> Protocol
 }
 
 /// The field lines as `http1` takes them. Fails only if an allocation fails.
-pub fn header_list<'a>(
+pub(crate) fn header_list<'a>(
     alloc: Global,
     fields: &'a [FieldLine],
 ) -> Result<Vec<Header<'a>>, AllocError>
@@ -37,7 +37,7 @@ pub fn header_list<'a>(
 }
 
 /// The size of the content of a request with this framing.
-pub fn request_size(framing: Framing) -> BodySize
+pub(crate) fn request_size(framing: Framing) -> BodySize
     ensures { result ≡ request_size framing }
 {
     match framing {
@@ -48,7 +48,7 @@ pub fn request_size(framing: Framing) -> BodySize
 }
 
 /// The size of the content of a response that is delimited so.
-pub fn response_size(content: ContentFraming) -> BodySize
+pub(crate) fn response_size(content: ContentFraming) -> BodySize
     ensures { result ≡ response_size content }
 {
     match content {

@@ -2,7 +2,7 @@
 use Rattle.std.specs.Prelude.{ℕ, ◌==◌, Bool, false, ◌||◌, ◌&&◌, not, nat_le, List, [], ◌∷◌, Option, Some, None}
 use Rattle.std.{specs.Prelude.{bytes_eq, codes, drop, if◌then◌else◌, option_map, take}, specs.List.list_all}
 use Rattle.gateway_messages.specs.Targets.{authority_len, scheme_len}
-use Rattle.gateway_parts.specs.declared.target.TargetParts.{TargetParts}
+use Rattle.gateway_exchange.specs.declared.target.TargetParts.{TargetParts}
 
 -- the authority of a target in absolute-form, and what follows it
 pub record Parts : Type 0 where
