@@ -2,7 +2,7 @@
 ghost use Rattle.std.{specs.Prelude.{◌≡◌, Some}, specs.Fn.FnOnceReturnsAtMut};
 ghost use Rattle.c_handles.specs.Handles.{Opens};
 ghost use Rattle.c_gate.specs.Pool.{Ends, Goes, IsPoolHeld, Leases, MayGo, OnPool, Releases, facts_of, rules_of};
-ghost use Rattle.gateway_pool.specs.Pools.{Event.FailedToOpen, Event.Finished, Event.Gone, Event.Opened, state_of};
+ghost use Rattle.gateway_pool.specs.Pools.{Event.FailedToOpen, Event.Finished, Event.Gone, Event.Opened};
 
 use c_decisions::flag_of;
 use c_handles::{Handle, Held};
@@ -119,7 +119,7 @@ fn facts_of(lease: Lease) -> LeaseFacts
 }
 
 fn lease_in(pool: &mut Pool, request: u64, now: u64, key: u64) -> Result<LeaseFacts, Failure>
-    ensures { Leases request now key (state_of pool.old) (state_of pool.new) result }
+    ensures { Leases request now key pool.old pool.new result }
 {
     Ok(facts_of(pool.lease(request, now, key)?))
 }
@@ -138,7 +138,7 @@ pub fn lease(
 }
 
 fn opened_in(pool: &mut Pool, connection: u64) -> Result<(), Failure>
-    ensures { Goes (Opened connection) (state_of pool.old) (state_of pool.new) result }
+    ensures { Goes (Opened connection) pool.old pool.new result }
 {
     pool.opened(connection);
     Ok(())
@@ -152,7 +152,7 @@ pub fn opened(alloc: Global, handle: &mut Handle, connection: u64) -> Result<(),
 }
 
 fn failed_in(pool: &mut Pool, connection: u64, now: u64) -> Result<(), Failure>
-    ensures { MayGo (FailedToOpen connection now) (state_of pool.old) (state_of pool.new) result }
+    ensures { MayGo (FailedToOpen connection now) pool.old pool.new result }
 {
     Ok(pool.failed_to_open(connection, now)?)
 }
@@ -170,7 +170,7 @@ pub fn failed_to_open(
 }
 
 fn ended_in(pool: &mut Pool, connection: u64) -> Result<u8, Failure>
-    ensures { Ends connection (state_of pool.old) (state_of pool.new) result }
+    ensures { Ends connection pool.old pool.new result }
 {
     Ok(flag_of(pool.ended(connection)?))
 }
@@ -183,7 +183,7 @@ pub fn ended(alloc: Global, handle: &mut Handle, connection: u64) -> Result<u8, 
 }
 
 fn release_in(pool: &mut Pool, connection: u64) -> Result<u8, Failure>
-    ensures { Releases connection (state_of pool.old) (state_of pool.new) result }
+    ensures { Releases connection pool.old pool.new result }
 {
     Ok(flag_of(pool.release(connection)))
 }
@@ -196,7 +196,7 @@ pub fn release(alloc: Global, handle: &mut Handle, connection: u64) -> Result<u8
 }
 
 fn gone_in(pool: &mut Pool, connection: u64) -> Result<(), Failure>
-    ensures { Goes (Gone connection) (state_of pool.old) (state_of pool.new) result }
+    ensures { Goes (Gone connection) pool.old pool.new result }
 {
     pool.gone(connection);
     Ok(())
@@ -210,7 +210,7 @@ pub fn gone(alloc: Global, handle: &mut Handle, connection: u64) -> Result<(), F
 }
 
 fn finished_in(pool: &mut Pool, request: u64) -> Result<(), Failure>
-    ensures { Goes (Finished request) (state_of pool.old) (state_of pool.new) result }
+    ensures { Goes (Finished request) pool.old pool.new result }
 {
     pool.finished(request);
     Ok(())
