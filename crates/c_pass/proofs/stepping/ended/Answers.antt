@@ -1,4 +1,4 @@
-use Rattle.std.proofs.Common.{rules, ◌≡◌, ℕ, Bool, true, false, List, [], Option, Result, Ok, Err, inl, inr, refl}
+use Rattle.std.proofs.Common.{rules, ◌≡◌, ℕ, Bool, true, false, List, [], Option, Result, Err, inl, inr, refl}
 use Rattle.std.{proofs.{Common.{subst, sym}, lemmas.Result.err_from_is_err_and}, specs.Prelude.{◌&&◌, is_some}}
 use Rattle.std.specs.{Prelude.unwrap_or, declared.alloc.AllocError.AllocError}
 use Rattle.cache_rules.specs.declared.storing.Reception.{Reception, TheVariants.{Complete, Incomplete}}
