@@ -214,6 +214,8 @@ static const struct row rows[] = {
      1ull << 40, NULL},
     SECONDS("cache-guess", AT(cache_guess), 0, "guess at most so many if the origin states no lifetime (0)"),
     SECONDS("cache-wait", AT(cache_wait), 0, "a request waits so long for another one for the same (5)"),
+    {"cache-status", "NAME", "say in Cache-Status what the cache of this name did (don't)", TEXT, AT(cache_status), 0,
+     0, NULL},
     {"max-head", "BYTES", "reject a longer head (16384)", NUMBER, AT(most_head), 256, 1 << 20, NULL},
     SECONDS("idle-time", AT(idle_time), 1, "a connection may wait for a request (60)"),
     SECONDS("head-time", AT(head_time), 1, "the head of a request must come within (20)"),
@@ -269,6 +271,12 @@ static const char *look_up(struct gateway *gateway, struct origin *origin) {
     return NULL;
 }
 
+static bool is_visible(const char *text) {
+    while (*text >= ' ' && *text <= '~')
+        text++;
+    return !*text;
+}
+
 /* Returns NULL, or what is wrong. */
 static const char *finish(struct gateway *gateway) {
     bool has_tls = false;
@@ -278,6 +286,8 @@ static const char *finish(struct gateway *gateway) {
         return "there is no origin";
     if (has_tls && !gateway->certificate)
         return "an address has 'tls', and there is no certificate";
+    if (gateway->cache_status && !is_visible(gateway->cache_status))
+        return "the name of cache-status isn't visible ASCII and spaces";
     if (!gateway->key)
         gateway->key = gateway->certificate;
     if (gateway->hosting.log_file && !gateway->hosting.log)

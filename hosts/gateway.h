@@ -8,6 +8,7 @@
 #include <sys/un.h>
 
 enum { MOST_ORIGINS = 64, MOST_GROUPS = 32, MOST_ROUTES = 128, MOST_TRUSTED = 64 };
+enum { ALL_GROUPS = MOST_GROUPS + 1 + MOST_ORIGINS }; /* those with a name, none, and one for each target of CONNECT */
 
 /* What comes to an address. */
 struct entrance {
@@ -59,6 +60,7 @@ struct gateway {
     bool writes_forwarded, writes_x_forwarded, passes_underscores, answers_expect;
     uint64_t most_head;
     uint64_t cache_bytes, cache_guess, cache_wait; /* bytes of a worker, and seconds */
+    const char *cache_status; /* the cache's name in Cache-Status, or NULL for none */
 
     /* Limits of time, in seconds. */
     uint64_t idle_time, head_time, connect_time, response_time, silence_time, keep_time;

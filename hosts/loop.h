@@ -66,9 +66,6 @@ void wait_in(struct source *source, struct queue *queue);
 static inline struct source *first_in(const struct queue *queue) {
     return queue->end.after == &queue->end ? NULL : queue->end.after;
 }
-static inline struct source *last_in(const struct queue *queue) {
-    return queue->end.before == &queue->end ? NULL : queue->end.before;
-}
 /* Lets the time of all that wait there be over. */
 void hurry(struct queue *queue);
 

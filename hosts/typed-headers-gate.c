@@ -1,7 +1,7 @@
 /* Passes HTTP/1.1 requests on to origin servers, and stores what they answer: typed-headers-gate(1).
  *
- * The library reads the messages of both sides, and gives each byte that goes to either. This program moves bytes,
- * finds an origin, and keeps time. It decides nothing about HTTP.
+ * The library reads the messages of both sides, gives each byte that goes to either, and chooses the connection that a
+ * request goes out on. This program moves bytes, and keeps time. It decides nothing about HTTP.
  *
  * A worker owns a cache, its clients' connections, and those to origins. An exchange is a client's connection; it owns
  * the connection to the origin that it uses. One that isn't used waits in the list of its origin. */
@@ -62,6 +62,7 @@ struct upstream {
     struct typed_headers_gate_origin connection; /* open if no exchange has it */
     struct exchange *exchange;                   /* NULL if it is idle */
     size_t origin;
+    uint64_t number; /* in the pool of its group */
     bool is_connected;
 };
 
@@ -73,9 +74,9 @@ struct exchange {
     struct proxy_header *header; /* NULL unless one is awaited */
     const struct entrance *entrance;
     struct address client, told; /* who has the connection, and of whom that tells */
-    uint64_t tried;              /* the origins that failed for this request, a bit each */
-    uint64_t begun;              /* when the request came */
-    size_t target;               /* the group that has the target of a CONNECT alone; 0 for other requests */
+    size_t group;                /* of origins, that the request is for; MOST_GROUPS for none */
+    uint64_t request;            /* the number of the request */
+    uint64_t begun;              /* when it came */
     uint64_t date;               /* the second that its gateway knows */
     uint64_t given, left;        /* where the content of the pass goes on, and how much is left of it */
     uint64_t passed;             /* bytes of content that the client gets */
@@ -90,18 +91,9 @@ struct exchange {
     bool is_behind;     /* bytes waited for the client after the last step */
     bool is_storing;    /* the pass gets what passes */
     bool is_validating; /* the origin is asked by the conditions of the cache */
-    bool repeats;       /* by a new connection */
     bool is_tunnel;
     bool is_over;   /* nothing more is said */
     bool has_moved; /* something was received or sent since it waits */
-};
-
-/* What is known of an origin. */
-struct health {
-    size_t in_use, failures;
-    uint64_t failed_until;
-    struct queue idle;
-    size_t idle_count;
 };
 
 /* What an exchange waits for, and so how long it may: a header of the PROXY protocol, a request, its head, the answer,
@@ -112,8 +104,10 @@ static struct {
     struct typed_headers_gate_rules rules;
     struct typed_headers_cache cache;
     struct typed_headers_keys keys;
-    struct health health[MOST_ORIGINS];
-    struct exchange *driven; /* that whose turn it is */
+    struct typed_headers_gate_pool pools[ALL_GROUPS];
+    struct queue kept[MOST_ORIGINS]; /* the idle connections to each origin */
+    uint64_t requests;               /* so many came */
+    struct exchange *driven;         /* that whose turn it is */
     size_t turn_bytes;
     uint8_t buffer[BUFFER];
 } own;
@@ -166,10 +160,22 @@ static void conclude(struct exchange *exchange, uint16_t status) {
         if (gateway->hosting.log != NO_LOG)
             log_line(exchange, status);
     }
+    if (exchange->is_asked)
+        typed_headers_gate_pool_finished(&own.pools[exchange->group], exchange->request);
     exchange->is_asked = false;
 }
 
 /* ---- Connections to origins ---- */
+
+static struct typed_headers_gate_pool *pool_at(size_t origin) { return &own.pools[gateway->origins[origin].group]; }
+
+/* Where the origin with this number in its group is among all. */
+static size_t place_of(size_t group, size_t number) {
+    size_t place = 0;
+    while (gateway->origins[place].group != group || number-- > 0)
+        place++;
+    return place;
+}
 
 static void end_tls(struct end *end) {
     if (end->tls)
@@ -178,13 +184,9 @@ static void end_tls(struct end *end) {
 }
 
 static void close_upstream(struct upstream *upstream) {
-    struct health *health = &own.health[upstream->origin];
-    if (upstream->exchange) {
+    if (upstream->exchange)
         upstream->exchange->upstream = NULL;
-        health->in_use--;
-    } else {
-        health->idle_count--;
-    }
+    typed_headers_gate_pool_gone(pool_at(upstream->origin), upstream->number);
     end_tls(&upstream->end);
     typed_headers_gate_origin_free(&upstream->connection);
     close_source(&upstream->end.source);
@@ -197,93 +199,55 @@ static void keep_upstream(struct exchange *exchange) {
     struct upstream *upstream = exchange->upstream;
     if (!upstream)
         return;
-    struct health *health = &own.health[upstream->origin];
+    uint8_t is_kept = 0;
     if (typed_headers_gate_take(&exchange->gate, &upstream->connection) != TYPED_HEADERS_DONE ||
-        upstream->end.is_broken || worker.is_stopping || gateway->keep_time == 0 ||
-        health->idle_count >= gateway->most_kept || !watch(&upstream->end.source, EPOLLIN)) {
+        upstream->end.is_broken || worker.is_stopping || !watch(&upstream->end.source, EPOLLIN) ||
+        typed_headers_gate_pool_release(pool_at(upstream->origin), upstream->number, &is_kept) || !is_kept) {
         close_upstream(upstream);
         return;
     }
     exchange->upstream = NULL;
     upstream->exchange = NULL;
-    health->in_use--;
-    health->idle_count++;
-    wait_in(&upstream->end.source, &health->idle);
+    wait_in(&upstream->end.source, &own.kept[upstream->origin]);
 }
 
 static void close_kept(struct source *source) { close_upstream((struct upstream *)source); }
 
-/* Takes the connection that is idle for the shortest time, or none. */
-static struct upstream *take_kept(size_t origin) {
-    struct health *health = &own.health[origin];
-    struct upstream *upstream;
-    uint8_t byte;
-    while ((upstream = (struct upstream *)last_in(&health->idle))) {
-        if (recv(upstream->end.source.socket, &byte, 1, MSG_PEEK) < 0 && errno == EAGAIN) {
-            wait_in(&upstream->end.source, NULL);
-            health->idle_count--;
-            return upstream;
-        }
-        close_upstream(upstream); /* it ended just now */
+/* Notes that an origin failed, and that this request is to go to another one. */
+static void note_failure(struct exchange *exchange, size_t origin, uint64_t number, const char *why) {
+    if (typed_headers_gate_pool_failed(pool_at(origin), number, worker.now)) { /* out of memory */
+        typed_headers_gate_pool_gone(pool_at(origin), number);
+        exchange->is_over = true;
     }
-    return NULL;
+    count_event(ORIGIN_FAILURES);
+    complain_of(gateway->origins[origin].text, why);
 }
 
-static bool is_failed(size_t origin) { return own.health[origin].failed_until > worker.now; }
-
-/* The origin of a group that has the fewest connections in use, of those that didn't fail lately, or else of all.
- * MOST_ORIGINS if each was tried. */
-static size_t choose_origin(size_t group, uint64_t tried) {
-    size_t best = MOST_ORIGINS;
-    for (size_t i = 0; i < gateway->origin_count; i++) {
-        if (gateway->origins[i].group != group || tried >> i & 1)
-            continue;
-        if (best == MOST_ORIGINS || (is_failed(best) && !is_failed(i)) ||
-            (is_failed(best) == is_failed(i) && own.health[i].in_use < own.health[best].in_use))
-            best = i;
-    }
-    return best;
-}
-
-/* Begins a connection to an origin. Returns NULL, with errno, if that fails at once. */
-static struct upstream *begin_upstream(struct exchange *exchange, size_t place) {
+/* Begins the connection with this number to an origin. Returns false if that fails at once. */
+static bool begin_upstream(struct exchange *exchange, size_t place, uint64_t number) {
     const struct origin *origin = &gateway->origins[place];
-    int made = socket(origin->address.any.sa_family, SOCK_STREAM | SOCK_NONBLOCK | SOCK_CLOEXEC, 0);
-    struct upstream *upstream = made < 0 ? NULL : calloc(1, sizeof *upstream);
+    struct upstream *upstream = calloc(1, sizeof *upstream);
     if (!upstream) {
-        if (made >= 0)
-            close_descriptor(made);
-        return NULL;
+        note_failure(exchange, place, number, strerror(errno));
+        return false;
     }
-    upstream->end.source = (struct source){.socket = made, .ready = on_origin};
-    upstream->exchange = exchange;
-    upstream->origin = place;
+    int made = socket(origin->address.any.sa_family, SOCK_STREAM | SOCK_NONBLOCK | SOCK_CLOEXEC, 0);
+    *upstream = (struct upstream){
+        .end.source = {.socket = made, .ready = on_origin}, .exchange = exchange, .origin = place, .number = number};
     exchange->upstream = upstream;
-    own.health[place].in_use++;
-    if (origin->address.any.sa_family != AF_UNIX)
-        setsockopt(made, IPPROTO_TCP, TCP_NODELAY, &(int){1}, sizeof(int)); /* it goes without */
-    if ((connect(made, &origin->address.any, origin->length) && errno != EINPROGRESS) ||
+    if (made < 0 || (connect(made, &origin->address.any, origin->length) && errno != EINPROGRESS) ||
         (origin->name && !(upstream->end.tls = tls_connect(site.trust, made, origin->name))) ||
         typed_headers_gate_origin_new(&upstream->connection, gateway->most_head, &own.keys) ||
         !watch(&upstream->end.source, EPOLLOUT)) {
-        int error = errno;
+        note_failure(exchange, place, number, strerror(errno));
         close_upstream(upstream);
-        errno = error;
-        return NULL;
+        return false;
     }
+    if (origin->address.any.sa_family != AF_UNIX)
+        setsockopt(made, IPPROTO_TCP, TCP_NODELAY, &(int){1}, sizeof(int)); /* it goes without */
     count_event(ORIGIN_CONNECTIONS);
     wait_in(&upstream->end.source, &connecting);
-    return upstream;
-}
-
-/* Notes that an origin failed, and that this request is to go to another one. */
-static void note_failure(struct exchange *exchange, size_t origin, const char *why) {
-    struct health *health = &own.health[origin];
-    exchange->tried |= 1ull << origin;
-    count_event(ORIGIN_FAILURES);
-    if (++health->failures >= MOST_FAILURES)
-        health->failed_until = worker.now + FAILED_TIME;
-    complain_of(gateway->origins[origin].text, why);
+    return true;
 }
 
 /* ---- Requests ---- */
@@ -326,13 +290,32 @@ static void fail(struct exchange *exchange, uint16_t status) {
     }
 }
 
+static bool is_connect(const struct exchange *exchange) { return exchange->group > MOST_GROUPS; }
+
 static void forward(struct exchange *exchange, struct upstream *upstream) {
     upstream->is_connected = true;
     upstream->end.is_readable = upstream->end.tls != NULL; /* OpenSSL may hold bytes already; otherwise epoll tells */
     wait_in(&upstream->end.source, NULL);
-    if (exchange->target ? typed_headers_gate_connected(&exchange->gate)
-                         : typed_headers_gate_forward(&exchange->gate, &upstream->connection))
+    if (is_connect(exchange) ? typed_headers_gate_connected(&exchange->gate)
+                             : typed_headers_gate_forward(&exchange->gate, &upstream->connection))
         exchange->is_over = true;
+}
+
+/* Forwards over the idle connection with this number. Returns false, and closes it, if it has ended or has bytes. */
+static bool reuse_upstream(struct exchange *exchange, size_t origin, uint64_t number) {
+    struct upstream *upstream = (struct upstream *)first_in(&own.kept[origin]);
+    uint8_t byte;
+    while (upstream->number != number)
+        upstream = (struct upstream *)upstream->end.source.after;
+    if (recv(upstream->end.source.socket, &byte, 1, MSG_PEEK) >= 0 || errno != EAGAIN) {
+        close_upstream(upstream);
+        return false;
+    }
+    upstream->exchange = exchange;
+    exchange->upstream = upstream;
+    count_event(ORIGIN_REUSES);
+    forward(exchange, upstream);
+    return true;
 }
 
 /* The group of the first route that the request is for, or MOST_GROUPS. */
@@ -349,34 +332,29 @@ static size_t group_asked(struct exchange *exchange) {
     return gateway->route_count || !gateway->group_count ? MOST_GROUPS : 0; /* without routes the first gets all */
 }
 
-/* Finds a connection for the request that waits. It goes out over one that is idle at once. */
+/* Does what the pool says, until the request that waits has a connection, which goes on at once if it was idle. */
 static void ask_origin(struct exchange *exchange) {
-    size_t group = exchange->target ? exchange->target : group_asked(exchange), origin;
-    if (group == MOST_GROUPS) {
+    struct typed_headers_gate_lease lease;
+    if (exchange->group == MOST_GROUPS && (exchange->group = group_asked(exchange)) == MOST_GROUPS) {
         abandon_pass(exchange);
         answer(exchange, 404);
         return;
     }
-    while ((origin = choose_origin(group, exchange->tried)) < MOST_ORIGINS) {
-        struct upstream *upstream = exchange->repeats ? NULL : take_kept(origin);
-        if (upstream) {
-            upstream->exchange = exchange;
-            exchange->upstream = upstream;
-            own.health[origin].in_use++;
-            count_event(ORIGIN_REUSES);
-            forward(exchange, upstream);
+    while (!exchange->is_over &&
+           !typed_headers_gate_pool_lease(&own.pools[exchange->group], exchange->request, worker.now, 0, &lease) &&
+           lease.kind <= TYPED_HEADERS_LEASE_OPEN) {
+        size_t origin = place_of(exchange->group, lease.origin);
+        if (lease.kind == TYPED_HEADERS_LEASE_OPEN ? begin_upstream(exchange, origin, lease.connection)
+                                                   : reuse_upstream(exchange, origin, lease.connection))
             return;
-        }
-        if (begin_upstream(exchange, origin))
-            return;
-        note_failure(exchange, origin, strerror(errno));
     }
-    fail(exchange, exchange->failure);
+    if (!exchange->is_over)
+        fail(exchange, exchange->failure);
 }
 
 static void fail_upstream(struct upstream *upstream, const char *why) {
     struct exchange *exchange = upstream->exchange;
-    note_failure(exchange, upstream->origin, why);
+    note_failure(exchange, upstream->origin, upstream->number, why);
     close_upstream(upstream);
     ask_origin(exchange);
     drive(exchange);
@@ -402,7 +380,7 @@ static void connect_on(struct upstream *upstream) {
     if (why) {
         fail_upstream(upstream, why);
     } else if (is_done) {
-        own.health[upstream->origin].failures = 0;
+        typed_headers_gate_pool_opened(pool_at(upstream->origin), upstream->number);
         forward(upstream->exchange, upstream);
         drive(upstream->exchange);
     } else if (!watch(&upstream->end.source, tls_wants_output(upstream->end.tls) ? EPOLLOUT : EPOLLIN)) {
@@ -444,13 +422,26 @@ static void give_piece(struct exchange *exchange) {
     exchange->is_over = typed_headers_gate_end(&exchange->gate) != TYPED_HEADERS_DONE;
 }
 
+/* Writes the field line that says what the pass comes to. Returns its length: 0 if nothing is said. */
+static size_t say_status(const struct exchange *exchange, uint8_t *room, size_t length) {
+    const uint8_t *name = (const uint8_t *)gateway->cache_status;
+    size_t count;
+    if (!name || typed_headers_pass_status(&exchange->pass, name, strlen(gateway->cache_status), room, length, &count))
+        return 0;
+    return count;
+}
+
 /* Begins to give the client the stored response that a step of a pass names. The first piece goes with the head, unless
  * responses before it wait: a client that reads none must not make many of them wait. */
 static void give(struct exchange *exchange, const struct typed_headers_pass_facts *facts) {
     size_t length;
     hurry(&collapsed); /* the pass has ended */
-    if (typed_headers_pass_fields(&exchange->pass, own.buffer, BUFFER, &length) ||
-        typed_headers_gate_respond(&exchange->gate, facts->status, own.buffer, length, facts->count, &own.keys)) {
+    if (typed_headers_pass_fields(&exchange->pass, own.buffer, BUFFER, &length)) {
+        answer(exchange, 502);
+        return;
+    }
+    length += say_status(exchange, own.buffer + length, BUFFER - length);
+    if (typed_headers_gate_respond(&exchange->gate, facts->status, own.buffer, length, facts->count, &own.keys)) {
         answer(exchange, 502);
         return;
     }
@@ -536,6 +527,7 @@ static void take_response(struct exchange *exchange) {
         facts.action = exchange->is_validating ? TYPED_HEADERS_ASK : TYPED_HEADERS_PASS_ON;
         abandon_pass(exchange);
     }
+    length = say_status(exchange, own.buffer, BUFFER);
     switch (facts.action) {
     case TYPED_HEADERS_PASS_ON_TO_END: exchange->is_storing = true; break;
     case TYPED_HEADERS_PASS_ON: close_pass(exchange); break;
@@ -549,6 +541,8 @@ static void take_response(struct exchange *exchange) {
         follow(exchange, &facts);
         return;
     }
+    if (length > 0)
+        typed_headers_gate_add(&exchange->gate, own.buffer, length, &own.keys); /* out of memory, it isn't said */
     if (typed_headers_gate_pass(&exchange->gate))
         exchange->is_over = true;
 }
@@ -725,7 +719,7 @@ static bool begin_connect(struct exchange *exchange) {
     uint64_t number;
     uint8_t status = typed_headers_gate_connect_to(&exchange->gate, targets, strlen(gateway->targets), &number);
     if (status == TYPED_HEADERS_DONE) {
-        exchange->target = MOST_GROUPS + 1 + number;
+        exchange->group = MOST_GROUPS + 1 + number;
         ask_origin(exchange);
     }
     return status != TYPED_HEADERS_ABSENT;
@@ -733,11 +727,11 @@ static bool begin_connect(struct exchange *exchange) {
 
 static void begin_request(struct exchange *exchange) {
     exchange->begun = worker.now;
-    exchange->tried = exchange->passed = exchange->target = 0;
-    exchange->status = 0;
+    exchange->request = own.requests++;
+    exchange->group = MOST_GROUPS;
+    exchange->passed = exchange->status = 0;
     exchange->failure = 502;
     exchange->cached = NO_CACHE;
-    exchange->repeats = false;
     exchange->is_asked = true;
     if (!exchange->is_own)
         count_event(REQUESTS);
@@ -759,12 +753,19 @@ static bool is_looking(const struct exchange *exchange) {
     return upstream ? !upstream->is_connected : exchange->end.source.queue == &collapsed;
 }
 
-/* Asks again, over a new connection. */
+/* Asks again: over a new connection, if that of the request ended. */
 static void repeat_request(struct exchange *exchange) {
-    if (exchange->upstream)
-        close_upstream(exchange->upstream);
-    exchange->repeats = true;
-    ask_origin(exchange);
+    struct upstream *upstream = exchange->upstream;
+    uint8_t goes_again = 1;
+    if (upstream) {
+        if (typed_headers_gate_pool_ended(pool_at(upstream->origin), upstream->number, &goes_again))
+            goes_again = 0; /* out of memory */
+        close_upstream(upstream);
+    }
+    if (goes_again)
+        ask_origin(exchange);
+    else
+        fail(exchange, 502);
 }
 
 /* The response has ended, or is asked for again. */
@@ -784,7 +785,7 @@ static void end_request(struct exchange *exchange, uint8_t phase) {
 
 static void begin_tunnel(struct exchange *exchange) {
     if (exchange->is_asked)
-        conclude(exchange, exchange->target ? 200 : 101);
+        conclude(exchange, is_connect(exchange) ? 200 : 101);
     abandon_pass(exchange);
     exchange->is_tunnel = true;
     exchange->is_over = typed_headers_gate_tunnel(&exchange->gate) != TYPED_HEADERS_DONE;
@@ -1061,6 +1062,20 @@ static void open_cache(void) {
         DIE("no cache: %s", typed_headers_status_text(status));
 }
 
+static void open_pools(void) {
+    for (size_t group = 0; group < ALL_GROUPS; group++) {
+        struct typed_headers_gate_pool_options options = {.failures = MOST_FAILURES,
+                                                          .pause = FAILED_TIME,
+                                                          .most = UINT64_MAX,
+                                                          .idle = gateway->keep_time ? gateway->most_kept : 0};
+        for (size_t i = 0; i < gateway->origin_count; i++)
+            options.origins += gateway->origins[i].group == group;
+        uint8_t status = options.origins ? typed_headers_gate_pool_new(&own.pools[group], &options) : 0;
+        if (status != TYPED_HEADERS_DONE)
+            DIE("no pool: %s", typed_headers_status_text(status));
+    }
+}
+
 void begin_worker(void) {
     add_queue(&greeting, gateway->head_time * 1000, greet_late, false);
     add_queue(&idle, gateway->idle_time * 1000, end_slow, true);
@@ -1070,7 +1085,8 @@ void begin_worker(void) {
     add_queue(&collapsed, WAIT_TIME, resume, false);
     add_queue(&connecting, gateway->connect_time * 1000, connect_late, false);
     for (size_t i = 0; i < gateway->origin_count; i++)
-        add_queue(&own.health[i].idle, gateway->keep_time * 1000, close_kept, false);
+        add_queue(&own.kept[i], gateway->keep_time * 1000, close_kept, false);
+    open_pools();
     fill_randomly(&own.keys, sizeof own.keys);
     open_rules();
     if (gateway->cache_bytes > 0)
@@ -1085,8 +1101,10 @@ void end_worker(void) {
     while (first_in(&connecting))
         close_exchange(((struct upstream *)first_in(&connecting))->exchange, true);
     for (size_t i = 0; i < gateway->origin_count; i++)
-        while (first_in(&own.health[i].idle))
-            close_kept(first_in(&own.health[i].idle));
+        while (first_in(&own.kept[i]))
+            close_kept(first_in(&own.kept[i]));
+    for (size_t group = 0; group < ALL_GROUPS; group++)
+        typed_headers_gate_pool_free(&own.pools[group]);
     typed_headers_cache_free(&own.cache);
     typed_headers_gate_rules_free(&own.rules);
 }

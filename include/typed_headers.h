@@ -1033,6 +1033,46 @@ struct typed_headers_gate_origin {
     bool is_open;
 };
 
+/* A gateway's connections to origins. It is closed or open, as those above. */
+struct typed_headers_gate_pool {
+    void *place;
+    bool is_open;
+};
+
+/* The rules of such a pool. */
+struct typed_headers_gate_pool_options {
+    /* How many origins there are, numbered from 0. */
+    size_t origins;
+    /* So many failures in turn, at least 1, and others are asked before an origin, for so many milliseconds. */
+    uint64_t failures;
+    uint64_t pause;
+    /* At most so many requests have a connection to one origin, and at most so many to it are kept idle. */
+    uint64_t most;
+    uint64_t idle;
+    /* Whether the key of a request chooses its origin (rendezvous hashing), and not the fewest requests. */
+    bool hashes;
+};
+
+enum typed_headers_gate_lease_kind {
+    /* It goes out on this idle connection. */
+    TYPED_HEADERS_LEASE_REUSE = 0,
+    /* This connection is to be opened to this origin. */
+    TYPED_HEADERS_LEASE_OPEN = 1,
+    /* Each origin failed for this request. */
+    TYPED_HEADERS_LEASE_FAILED = 2,
+    /* The origins that are left have all the connections that they may have. */
+    TYPED_HEADERS_LEASE_FULL = 3
+};
+
+/* Where a request goes out. */
+struct typed_headers_gate_lease {
+    /* The number of the connection and of its origin, if there is one. */
+    uint64_t connection;
+    size_t origin;
+    /* One of `typed_headers_gate_lease_kind`. */
+    uint8_t kind;
+};
+
 /* What a gateway does beside what it is to messages. */
 struct typed_headers_gate_options {
     /* The host that a request of HTTP/1.0 without Host is for. */
@@ -1981,6 +2021,13 @@ uint8_t typed_headers_pass_fields(const struct typed_headers_pass *pass, uint8_t
                                   size_t *written);
 
 /*
+ * The field line of Cache-Status (RFC 9211) for the pass. It names the cache so. Ask after the step that names what is
+ * sent. Refused: the name isn't visible ASCII and spaces. Absent: the pass is closed. Memory: nothing is rejected.
+ */
+uint8_t typed_headers_pass_status(const struct typed_headers_pass *pass, const uint8_t *name, size_t name_length,
+                                  uint8_t *room, size_t room_length, size_t *written);
+
+/*
  * The request that validates what a pass has sent stale: its field lines, each with a LF (RFC 5861, section 3). A new
  * pass, which answers nobody, begins with it, of the same method and target, and it is forwarded so. Its fields are the
  * client's, without conditions and Range; and Cache-Control says `no-cache` alone, and `no-store` if the client's says
@@ -2222,6 +2269,14 @@ uint8_t typed_headers_gate_end(struct typed_headers_gate *gate);
 uint8_t typed_headers_gate_response(struct typed_headers_gate *gate, uint16_t *status, uint8_t *room,
                                     size_t room_length, size_t *written);
 
+/*
+ * Adds field lines to the origin's response that waits. They go after those that are forwarded, in place of any that
+ * were added before. Refused: none waits; a line of the section before its first empty one is no field; or one frames
+ * the message, is for one connection, or has a name that the gateway writes itself. Memory: the handle is open.
+ */
+uint8_t typed_headers_gate_add(struct typed_headers_gate *gate, const uint8_t *section, size_t section_length,
+                               const struct typed_headers_keys *keys);
+
 /* Passes the origin's response that waits on. */
 uint8_t typed_headers_gate_pass(struct typed_headers_gate *gate);
 
@@ -2248,6 +2303,51 @@ uint8_t typed_headers_gate_tunnel(struct typed_headers_gate *gate);
 uint8_t typed_headers_gate_ask(struct typed_headers_gate *gate, const uint8_t *method, size_t method_length,
                                const uint8_t *target, size_t target_length, const uint8_t *section,
                                size_t section_length);
+
+/* ---- A gateway's connections to origins that can answer the same requests, which opens no socket. Since 2.0. ---- */
+
+/* Closes a handle, and gives its memory back. It may be closed before, or null. The status is TYPED_HEADERS_DONE. */
+uint8_t typed_headers_gate_pool_free(struct typed_headers_gate_pool *pool);
+
+/* Opens the handle of a pool without connections. Refused: the handle is open. Memory: the handle is closed. */
+uint8_t typed_headers_gate_pool_new(struct typed_headers_gate_pool *pool,
+                                    const struct typed_headers_gate_pool_options *options);
+
+/*
+ * Where a request goes out. The program numbers requests, and gives each its own number. `now` is in milliseconds, and
+ * never goes back. `key` is a hash of what is to go to the same origin, if the options say so. Memory: a connection is
+ * to be opened. Out of memory nothing changes.
+ */
+uint8_t typed_headers_gate_pool_lease(struct typed_headers_gate_pool *pool, uint64_t request, uint64_t now,
+                                      uint64_t key, struct typed_headers_gate_lease *lease);
+
+/* Says that a connection was opened, so that its origin doesn't fail. */
+uint8_t typed_headers_gate_pool_opened(struct typed_headers_gate_pool *pool, uint64_t connection);
+
+/*
+ * Says that a connection couldn't be opened. It is no more, and its request isn't for that origin any more. Out of
+ * memory nothing changes.
+ */
+uint8_t typed_headers_gate_pool_failed(struct typed_headers_gate_pool *pool, uint64_t connection, uint64_t now);
+
+/*
+ * Says that a connection ended before an answer, and its request may be repeated, as TYPED_HEADERS_GATE_REPEAT says.
+ * Gives 1 if it goes out again, once and on a new connection (RFC 9112, section 9.3.1), otherwise 0. Out of memory
+ * nothing changes.
+ */
+uint8_t typed_headers_gate_pool_ended(struct typed_headers_gate_pool *pool, uint64_t connection, uint8_t *again);
+
+/*
+ * Says that an exchange is over, and `typed_headers_gate_take` gave its connection. Gives 1 if that is kept for another
+ * request, or 0 if it is to be closed.
+ */
+uint8_t typed_headers_gate_pool_release(struct typed_headers_gate_pool *pool, uint64_t connection, uint8_t *kept);
+
+/* Says that a connection is closed, has ended, or had a byte that nobody asked for. No request gets it any more. */
+uint8_t typed_headers_gate_pool_gone(struct typed_headers_gate_pool *pool, uint64_t connection);
+
+/* Says that a request is over, so that what failed for it is forgotten. */
+uint8_t typed_headers_gate_pool_finished(struct typed_headers_gate_pool *pool, uint64_t request);
 
 /* ---- The end of what it writes. ---- */
 

@@ -20,6 +20,8 @@ union slot {
         struct typed_headers_retry_time retry_time;
         struct typed_headers_stale_directives stale_directives;
         struct typed_headers_entry entry;
+        struct typed_headers_gate_pool_options gate_pool_options;
+        struct typed_headers_gate_lease gate_lease;
         struct typed_headers_gate_facts gate_facts;
         struct typed_headers_request request;
         struct typed_headers_message message;
@@ -76,6 +78,11 @@ SHAPE(stale_directives, FLAGGED(stale_directives, while_revalidate, U64, has_whi
 SHAPE(entry, MEMBER(entry, length, U64), MEMBER(entry, modified, U64), MEMBER(entry, device, U64),
       MEMBER(entry, inode, U64), MEMBER(entry, changed, U64), MEMBER(entry, changed_nanosecond, U64),
       MEMBER(entry, kind, U8))
+SHAPE(gate_pool_options, MEMBER(gate_pool_options, origins, SIZE), MEMBER(gate_pool_options, failures, U64),
+      MEMBER(gate_pool_options, pause, U64), MEMBER(gate_pool_options, most, U64),
+      MEMBER(gate_pool_options, idle, U64), MEMBER(gate_pool_options, hashes, BOOL))
+SHAPE(gate_lease, MEMBER(gate_lease, connection, U64), MEMBER(gate_lease, origin, SIZE),
+      MEMBER(gate_lease, kind, U8))
 SHAPE(gate_facts, MEMBER(gate_facts, piece, U64), MEMBER(gate_facts, event, U8), MEMBER(gate_facts, phase, U8),
       MEMBER(gate_facts, client_input, BOOL), MEMBER(gate_facts, client_output, BOOL),
       MEMBER(gate_facts, origin_input, BOOL), MEMBER(gate_facts, origin_output, BOOL),
@@ -155,6 +162,7 @@ HANDLE(files)
 HANDLE(gate_rules)
 HANDLE(gate)
 HANDLE(gate_origin)
+HANDLE(gate_pool)
 
 CALL(canonical, MAY(REFUSED) | MAY(TOO_LARGE) | MAY(MARKED) | MAY(NO_MEMORY), (TEXT_OF(at[0]), &keys, ROOM(at[1])),
      PLAIN(GIVEN_TEXT), PLAIN(ROOM_OF_BYTES))
@@ -395,6 +403,8 @@ CALL(pass_came, MAY(REFUSED) | MAY(ABSENT) | MAY(TOO_LARGE) | MAY(NO_MEMORY), (a
 CALL(pass_failed, MAY(ABSENT) | MAY(NO_MEMORY), (at[0].handle.at, at[1].handle.at, at[2].u64, &at[3].any.pass_facts),
      OF_HANDLE(OPENED, cache), OF_HANDLE(OPENED, pass), OF_KIND(NUMBER, U64), OF_SHAPE(OUT_STRUCT, pass_facts))
 CALL(pass_fields, MAY(ABSENT), (at[0].handle.at, ROOM(at[1])), OF_HANDLE(OPENED, pass), PLAIN(ROOM_OF_BYTES))
+CALL(pass_status, MAY(REFUSED) | MAY(ABSENT) | MAY(NO_MEMORY), (at[0].handle.at, TEXT_OF(at[1]), ROOM(at[2])),
+     OF_HANDLE(OPENED, pass), PLAIN(GIVEN_TEXT), PLAIN(ROOM_OF_BYTES))
 CALL(pass_validation, MAY(ABSENT) | MAY(TOO_LARGE) | MAY(NO_MEMORY), (at[0].handle.at, ROOM(at[1])),
      OF_HANDLE(OPENED, pass), PLAIN(ROOM_OF_BYTES))
 CALL(pass_content, MAY(ABSENT), (at[0].handle.at, at[1].size, ROOM(at[2])), OF_HANDLE(OPENED, pass),
@@ -465,6 +475,8 @@ CALL(gate_push, MAY(REFUSED) | MAY(ABSENT) | MAY(NO_MEMORY), (at[0].handle.at, T
 CALL(gate_end, MAY(REFUSED) | MAY(ABSENT) | MAY(NO_MEMORY), (at[0].handle.at), OF_HANDLE(OPENED, gate))
 CALL(gate_response, MAY(ABSENT) | MAY(NO_MEMORY), (at[0].handle.at, &at[1].u16, ROOM(at[2])),
      OF_HANDLE(OPENED, gate), OF_KIND(OUT_NUMBER, U16), PLAIN(ROOM_OF_BYTES))
+CALL(gate_add, MAY(REFUSED) | MAY(ABSENT) | MAY(TOO_LARGE) | MAY(NO_MEMORY), (at[0].handle.at, TEXT_OF(at[1]),
+     &keys), OF_HANDLE(OPENED, gate), PLAIN(GIVEN_TEXT))
 CALL(gate_pass, MAY(ABSENT), (at[0].handle.at), OF_HANDLE(OPENED, gate))
 CALL(gate_piece, MAY(ABSENT), (at[0].handle.at, ROOM(at[1])), OF_HANDLE(OPENED, gate), PLAIN(ROOM_OF_BYTES))
 CALL(gate_take, MAY(REFUSED) | MAY(ABSENT) | MAY(NO_MEMORY), (at[0].handle.at, at[1].handle.at),
@@ -473,6 +485,22 @@ CALL(gate_own, MAY(ABSENT), (at[0].handle.at, &at[1].u16), OF_HANDLE(OPENED, gat
 CALL(gate_tunnel, MAY(ABSENT) | MAY(NO_MEMORY), (at[0].handle.at), OF_HANDLE(OPENED, gate))
 CALL(gate_ask, MAY(ABSENT) | MAY(NO_MEMORY), (at[0].handle.at, TEXT_OF(at[1]), TEXT_OF(at[2]), TEXT_OF(at[3])),
      OF_HANDLE(OPENED, gate), PLAIN(GIVEN_TEXT), PLAIN(GIVEN_TEXT), PLAIN(GIVEN_TEXT))
+CALL(gate_pool_free, 0, (at[0].handle.at), OF_HANDLE(OPENED, gate_pool))
+CALL(gate_pool_new, MAY(REFUSED) | MAY(NO_MEMORY), (at[0].handle.at, &at[1].any.gate_pool_options),
+     OF_HANDLE(NEW, gate_pool), OF_SHAPE(IN_STRUCT, gate_pool_options))
+CALL(gate_pool_lease, MAY(ABSENT) | MAY(NO_MEMORY), (at[0].handle.at, at[1].u64, at[2].u64, at[3].u64,
+     &at[4].any.gate_lease), OF_HANDLE(OPENED, gate_pool), OF_KIND(NUMBER, U64), OF_KIND(NUMBER, U64),
+     OF_KIND(NUMBER, U64), OF_SHAPE(OUT_STRUCT, gate_lease))
+CALL(gate_pool_opened, MAY(ABSENT), (at[0].handle.at, at[1].u64), OF_HANDLE(OPENED, gate_pool), OF_KIND(NUMBER, U64))
+CALL(gate_pool_failed, MAY(ABSENT) | MAY(NO_MEMORY), (at[0].handle.at, at[1].u64, at[2].u64),
+     OF_HANDLE(OPENED, gate_pool), OF_KIND(NUMBER, U64), OF_KIND(NUMBER, U64))
+CALL(gate_pool_ended, MAY(ABSENT) | MAY(NO_MEMORY), (at[0].handle.at, at[1].u64, &at[2].u8),
+     OF_HANDLE(OPENED, gate_pool), OF_KIND(NUMBER, U64), OF_KIND(OUT_NUMBER, U8))
+CALL(gate_pool_release, MAY(ABSENT), (at[0].handle.at, at[1].u64, &at[2].u8), OF_HANDLE(OPENED, gate_pool),
+     OF_KIND(NUMBER, U64), OF_KIND(OUT_NUMBER, U8))
+CALL(gate_pool_gone, MAY(ABSENT), (at[0].handle.at, at[1].u64), OF_HANDLE(OPENED, gate_pool), OF_KIND(NUMBER, U64))
+CALL(gate_pool_finished, MAY(ABSENT), (at[0].handle.at, at[1].u64), OF_HANDLE(OPENED, gate_pool),
+     OF_KIND(NUMBER, U64))
 
 enum { MOST_SLOTS = 9 };
 #define CALLS \
@@ -500,13 +528,16 @@ enum { MOST_SLOTS = 9 };
     METHOD(connection_plan_bytes), METHOD(connection_plan_range), METHOD(connection_respond), \
     METHOD(connection_output), METHOD(connection_range), METHOD(connection_sent), METHOD(connection_time_out), \
     METHOD(connection_rejection), METHOD(connection_planned), METHOD(pass_free), METHOD(pass_begin), \
-    METHOD(pass_resume), METHOD(pass_came), METHOD(pass_failed), METHOD(pass_fields), METHOD(pass_validation), \
-    METHOD(pass_content), METHOD(pass_received), METHOD(pass_ended), METHOD(files_free), METHOD(files_new), \
-    METHOD(files_path), METHOD(files_plan), METHOD(gate_rules_free), METHOD(gate_free), METHOD(gate_origin_free), \
-    METHOD(gate_rules_new), METHOD(gate_new), METHOD(gate_origin_new), METHOD(gate_next), METHOD(gate_receive), \
-    METHOD(gate_finish), METHOD(gate_output), METHOD(gate_sent), METHOD(gate_clock), METHOD(gate_timed_out), \
-    METHOD(gate_close_after), METHOD(gate_method), METHOD(gate_target), METHOD(gate_authority), METHOD(gate_key), \
-    METHOD(gate_field), METHOD(gate_fields), METHOD(gate_is_for), METHOD(gate_connect_to), METHOD(gate_connected), \
-    METHOD(gate_conditions), METHOD(gate_forward), METHOD(gate_again), METHOD(gate_answer), METHOD(gate_respond), \
-    METHOD(gate_push), METHOD(gate_end), METHOD(gate_response), METHOD(gate_pass), METHOD(gate_piece), \
-    METHOD(gate_take), METHOD(gate_own), METHOD(gate_tunnel), METHOD(gate_ask)
+    METHOD(pass_resume), METHOD(pass_came), METHOD(pass_failed), METHOD(pass_fields), METHOD(pass_status), \
+    METHOD(pass_validation), METHOD(pass_content), METHOD(pass_received), METHOD(pass_ended), METHOD(files_free), \
+    METHOD(files_new), METHOD(files_path), METHOD(files_plan), METHOD(gate_rules_free), METHOD(gate_free), \
+    METHOD(gate_origin_free), METHOD(gate_rules_new), METHOD(gate_new), METHOD(gate_origin_new), METHOD(gate_next), \
+    METHOD(gate_receive), METHOD(gate_finish), METHOD(gate_output), METHOD(gate_sent), METHOD(gate_clock), \
+    METHOD(gate_timed_out), METHOD(gate_close_after), METHOD(gate_method), METHOD(gate_target), \
+    METHOD(gate_authority), METHOD(gate_key), METHOD(gate_field), METHOD(gate_fields), METHOD(gate_is_for), \
+    METHOD(gate_connect_to), METHOD(gate_connected), METHOD(gate_conditions), METHOD(gate_forward), \
+    METHOD(gate_again), METHOD(gate_answer), METHOD(gate_respond), METHOD(gate_push), METHOD(gate_end), \
+    METHOD(gate_response), METHOD(gate_add), METHOD(gate_pass), METHOD(gate_piece), METHOD(gate_take), \
+    METHOD(gate_own), METHOD(gate_tunnel), METHOD(gate_ask), METHOD(gate_pool_free), METHOD(gate_pool_new), \
+    METHOD(gate_pool_lease), METHOD(gate_pool_opened), METHOD(gate_pool_failed), METHOD(gate_pool_ended), \
+    METHOD(gate_pool_release), METHOD(gate_pool_gone), METHOD(gate_pool_finished)

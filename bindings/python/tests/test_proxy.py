@@ -24,6 +24,7 @@ try:
     import uvicorn
 
     from typed_headers.gateway import ClientRequest, ClientResponse, Proxy, Unanswered
+    from typed_headers.proxy import _TRAILERS
 except ImportError as error:
     raise unittest.SkipTest(f"httpx or uvicorn isn't installed: {error}") from None
 
@@ -652,6 +653,33 @@ class Streamed:
         self.writer.close()
 
 
+class Trailing:
+    """A client that gives trailer fields. Each request gets these fields, "hello", and these trailer fields."""
+
+    gives_trailers = True
+
+    def __init__(self, fields: Fields, trailers: Fields) -> None:
+        self.fields, self.trailers, self.asked = fields, trailers, ClientRequest("", "", b"", (), None, None)
+
+    async def send(self, request: ClientRequest) -> Any:
+        self.asked = request
+        return Trailed(self.fields, self.trailers)
+
+
+class Trailed:
+    status, version = 200, 11
+
+    def __init__(self, fields: Fields, trailers: Fields) -> None:
+        self.fields, self.given, self.trailers = fields, trailers, [(b"server-timing", b"too-early")]
+
+    async def pieces(self) -> AsyncIterator[bytes]:
+        yield b"hello"
+        self.trailers = self.given
+
+    async def aclose(self) -> None:
+        pass
+
+
 class Failing:
     """A client that gets no response."""
 
@@ -920,6 +948,47 @@ class Applications(unittest.TestCase):
         self.assertEqual(self.ask(self.proxy(), scope, {"type": "websocket.connect"}), [{"type": "websocket.close"}])
         messages = self.ask(self.proxy(), {**scope, "extensions": {"websocket.http.response": {}}})
         self.assertEqual((messages[0]["status"], messages[1]["body"]), (501, b""))
+
+    def trailed(self, trailers: Fields, *lines: Tuple[bytes, bytes], offered: bool = True, **scope: Any) -> List[Any]:
+        """What a server gets of a response with these trailer fields, and what the origin server is told of TE."""
+        fields = [(b"Transfer-Encoding", b"chunked"), (b"Connection", b"close, signature"), *lines]
+        client = Trailing(fields, trailers)
+        extensions = {"http.response.trailers": {}} if offered else {}
+        asked = {"headers": [(b"host", b"a"), (b"te", b"gzip, Trailers")], "extensions": extensions, **scope}
+        gateway = Gateway("gw", protected=["ETag"])
+        messages = self.ask(Proxy("http://a", gateway, client), {"type": "http", **asked})
+        is_told = offered and "headers" not in scope
+        self.assertEqual(dict(client.asked.fields).get(b"te"), b"trailers" if is_told else None)
+        return messages
+
+    def test_trailers(self) -> None:
+        announced, passed = (b"Trailer", b"Server-Timing"), [(b"Server-Timing", b"a;dur=1"), (b"server-timing", b"b")]
+        dropped = [(b"Content-Length", b"9"), (b"X-A", b"b"), (b"ETag", b'"1"'), (b"Signature", b"a"), (b"Via", b"1 b")]
+        scopes: List[Dict[str, Any]] = [{}, {"headers": [(b"host", b"a")]}]
+        for scope in scopes:
+            start, body, end, trailers = self.trailed([*dropped, *passed], announced, **scope)
+            self.assertEqual((start["trailers"], body["body"], end["body"]), (True, b"hello", b""))
+            fields = [(b"server-timing", b"a;dur=1"), (b"server-timing", b"b")]
+            expected = {"type": "http.response.trailers", "headers": fields, "more_trailers": False}
+            self.assertEqual(trailers, expected)
+        self.assertEqual(self.trailed(dropped, announced)[3]["headers"], [])
+        for found in (
+            self.trailed(passed),
+            self.trailed(passed, announced, offered=False),
+            self.trailed(passed, announced, method="HEAD"),
+            self.trailed(passed, announced, http_version="1.0"),
+        ):
+            self.assertNotIn("trailers", found[0])
+            self.assertEqual({it["type"] for it in found[1:]}, {"http.response.body"})
+        with self.assertRaises(HeaderError):
+            self.trailed([(b"Server-Timing", b"a\r\nb")], announced)
+
+    def test_trailers_of_the_specification(self) -> None:
+        page = Path(__file__).resolve().parents[3] / "crates/gateway_messages/specs/Trailers.antt"
+        if not page.exists():
+            self.skipTest("the specification isn't here")
+        names = re.search(r"\ntrailer_names =\n(.*?)\[\]", page.read_text("utf-8"), re.S)
+        self.assertEqual(set(re.findall('"(.*?)"', names[1] if names else "")), _TRAILERS)
 
     def test_lifespan(self) -> None:
         events = [{"type": f"lifespan.{it}"} for it in ("startup", "shutdown")]

@@ -40,7 +40,7 @@ from .asgi import Receive, Scope, Send
 from .errors import HeaderError
 from .gateway import Action, FramingKind, Gateway, Hop, RequestOutcome, ResponseOutcome
 from .headers import Headers
-from .values import format_date
+from .values import format_date, has_member
 
 __all__ = ["Client", "ClientRequest", "ClientResponse", "Proxy", "Unanswered"]
 
@@ -49,6 +49,11 @@ _VERSIONS = {"1.0": 10, "1.1": 11}
 #: The event that a request waits, and so many bytes of its method, its target and its Host.
 _WAITS_FOR_ORIGIN, _MOST_HEAD = 1, 1 << 20
 _CLOSE = (b"connection", b"close")
+#: The trailer fields that a gateway forwards, as crates/gateway_messages/specs/Trailers.antt has them.
+_TRAILERS = frozenset(
+    "accept-ranges authentication-info content-digest etag proxy-authentication-info repr-digest server-timing "
+    "signature signature-input".split()
+)
 FieldLines = Sequence[Tuple[bytes, bytes]]
 
 
@@ -105,6 +110,9 @@ class Client(Protocol):
         """The response to the request. Interim responses are dropped.
 
         If none comes, it raises: `TimeoutError` for 504, `Unanswered` for its status, and any other error for 502.
+
+        A client may have a true `gives_trailers`. Its responses have `trailers`: the trailer field lines, once all
+        pieces came.
         """
 
 
@@ -134,8 +142,13 @@ class Proxy:
 
     The logger `typed_headers.proxy` is told why the proxy answers by itself: a warning, or at the level of information
     if the request is at fault. The proxy answers CONNECT and handshakes of WebSockets with 501, the latter if the
-    server lets an application do so. Trailer fields and interim responses are dropped. Let the server set neither Date
-    nor Server, and not take the client from X-Forwarded-For.
+    server lets an application do so. Let the server set neither Date nor Server, and not take the client from
+    X-Forwarded-For.
+
+    Trailer fields that a chunked response announces in Trailer pass if the server has the extension
+    `http.response.trailers`, and the client has `gives_trailers`: `httpx` hides them. Of these fields, the gateway
+    forwards those that their definition permits in a trailer section, but for its protected ones. `httpx` also hides
+    interim responses, so none pass.
     """
 
     def __init__(
@@ -155,6 +168,7 @@ class Proxy:
         status, self._rules = calls.gate_rules_new(gateway._parts, (self.authority, False, False, False, False, False))
         check(status, lambda: ValueError(f"origin: no Host is {self.authority!r}"))
         self.client: Client = _client(self.origin, client)
+        self.gives_trailers = bool(getattr(self.client, "gives_trailers", False))
         self.timeout = timeout
         self.trusted = (trusted,) if isinstance(trusted, str) else trusted
         self.hop = Hop(
@@ -200,7 +214,9 @@ class Proxy:
             request = Headers([(name, value) for name, value in scope["headers"]])
             status, target, host = self._target(method, _raw_target(scope), hosts)
             authority = None if [host] == hosts and "host" in request else host
-            decided = self.gateway.forward_request(method, request, self._hop(scope), version, authority or None)
+            gives_trailers = self.gives_trailers and "http.response.trailers" in (scope.get("extensions") or {})
+            hop = self._hop(scope, gives_trailers and _accepts_trailers(request))
+            decided = self.gateway.forward_request(method, request, hop, version, authority or None)
         except HeaderError as error:
             await _respond(send, 400, str(error), _CLOSE)
             return
@@ -211,7 +227,7 @@ class Proxy:
             # (after a request that others may delimit in another way, the connection ends: RFC 9112, section 6.1)
             await _respond(send, status, reason, *([_CLOSE] if status == 400 else []))
             return
-        await _Exchange(self, method, target, version, decided, receive, send).run()
+        await _Exchange(self, method, target, version, decided, receive, send, gives_trailers).run()
 
     def _target(self, method: str, target: bytes, hosts: List[bytes]) -> Tuple[Optional[int], bytes, bytes]:
         """The status if no request for the target is passed on; and the target and the Host to send."""
@@ -229,7 +245,7 @@ class Proxy:
             return calls.gate_own(gate)[1], b"", b""
         return None, calls.gate_target(gate)[1], calls.gate_authority(gate)[1]
 
-    def _hop(self, scope: Scope) -> Hop:
+    def _hop(self, scope: Scope, accepts_trailers: bool) -> Hop:
         host, port = [*(scope.get("client") or ("", 0))][:2]
         address = _address(host or "")
         is_trusted = self.trusted(host or "") if callable(self.trusted) else (host or "") in self.trusted
@@ -239,6 +255,7 @@ class Proxy:
             client_port=port if address and port else None,
             is_secure=scope.get("scheme") == "https",
             is_trusted=bool(is_trusted),
+            accepts_trailers=accepts_trailers,
         )
 
 
@@ -294,6 +311,8 @@ class _Exchange:
     decided: RequestOutcome
     receive: Receive
     send: Send
+    #: Whether the server sends trailer fields, and the client gives them.
+    gives_trailers: bool
 
     async def run(self) -> None:
         has_content = self.decided.framing is not None and self.decided.framing.kind is not FramingKind.NO_CONTENT
@@ -332,32 +351,53 @@ class _Exchange:
             await response.aclose()
 
     async def _pass_back(self, response: ClientResponse) -> None:
-        decided, reason = self._decided(response)
+        fields, decided, reason = self._decided(response)
         if decided is None or decided.sent is None:
             await _respond(self.send, 502, reason)
             return
         has_content = decided.sent.kind is not FramingKind.NO_CONTENT
+        is_chunked = decided.sent.kind is FramingKind.CHUNKED
+        has_trailers = self.gives_trailers and is_chunked and "trailer" in fields
         # An ASGI server delimits the content by itself, and may wait for as much as a 304 states.
         unsent = ("transfer-encoding", *(("content-length",) if response.status == 304 else ()))
-        fields = [(name, value) for name, value in decided.fields if name not in unsent]
-        await self.send({"type": "http.response.start", "status": response.status, "headers": _encoded(fields)})
+        head = _encoded([(name, value) for name, value in decided.fields if name not in unsent])
+        start = {"type": "http.response.start", "status": response.status, "headers": head}
+        await self.send({**start, "trailers": True} if has_trailers else start)
         async for piece in response.pieces():
             if has_content:
                 await self.send({"type": "http.response.body", "body": bytes(piece), "more_body": True})
+        trailers = self._trailers(fields, response) if has_trailers else []
         await self.send({"type": "http.response.body", "body": b""})
+        if has_trailers:
+            await self.send({"type": "http.response.trailers", "headers": trailers, "more_trailers": False})
 
-    def _decided(self, response: ClientResponse) -> Tuple[Optional[ResponseOutcome], str]:
-        """What the gateway does with a response, `None` if no server of ASGI sends it, and why it is rejected."""
+    def _decided(self, response: ClientResponse) -> Tuple[Headers, Optional[ResponseOutcome], str]:
+        """The fields of a response, what the gateway does with it, and why it is rejected. `None` if no server of ASGI
+        sends it."""
         if response.status > 599:
-            return None, f"the status is {response.status}"
+            return Headers(), None, f"the status is {response.status}"
         try:
             fields = Headers([(name, value) for name, value in response.fields])
             decided = self.proxy.gateway.forward_response(
                 self.method, response.status, fields, response.version, self.version
             )
         except HeaderError as error:
-            return None, str(error)
-        return decided, "an interim response" if decided.reason is None else decided.reason.name
+            return Headers(), None, str(error)
+        return fields, decided, "an interim response" if decided.reason is None else decided.reason.name
+
+    def _trailers(self, fields: Headers, response: Any) -> List[Tuple[bytes, bytes]]:
+        """The trailer fields that go on (RFC 9110, section 6.5.1). What is no field raises `HeaderError`."""
+        gateway = self.proxy.gateway
+        names = _TRAILERS.difference(name.lower() for name in gateway.protected)
+        given = Headers([(name, value) for name, value in response.trailers]).pairs()
+        options = [("connection", line) for line in fields.lines("connection")]
+        decided = gateway.forward_response("GET", 200, options + [it for it in given if it[0] in names])
+        return _encoded([it for it in decided.fields if it[0] in names])
+
+
+def _accepts_trailers(request: Headers) -> bool:
+    lines = request.lines("te")
+    return bool(lines) and has_member("trailers", *lines)
 
 
 def _wrong() -> HeaderError:

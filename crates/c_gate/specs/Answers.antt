@@ -8,7 +8,7 @@ use Rattle.http1.specs.declared.{conn.BodySize.TheVariants.{Empty, Known}, error
 use Rattle.{http1_typed.specs.Parts.reason_of, headers_section.specs.Section.Holds}
 use Rattle.server_stream.specs.Steps as Stream
 use Rattle.gateway_exchange.specs.Steps.{Answers, ChangesClient, EndsGiving, Gives, IsAsking, RefusesGiving}
-use Rattle.gateway_exchange.specs.Steps.{RefusesInGiving, Settles}
+use Rattle.gateway_exchange.specs.{Steps.{Adds, RefusesAdding, RefusesInGiving, Settles}, declared.pass.Heard.Heard}
 use Rattle.gateway_exchange.specs.declared.connection.{GatewayConnection.GatewayConnection, Stage.TheVariants.Giving}
 use Rattle.gateway_exchange.specs.declared.{decision.AskedRequest.AskedRequest, own.Own.TheVariants.Chosen}
 use Rattle.c_parts.specs.{SectionMap.IsMapOf, declared.status.Failure.{Failure, TheVariants.{Refused, Memory}}}
@@ -42,6 +42,23 @@ abbrev pub WritesBy : (GatewayConnection → GatewayConnection → Type 0)
 WritesBy P Q old new (Ok tt) = Becomes P old new
 WritesBy P Q old new (Err failure) =
     (error : WriteError) × (failure ≡ write_failure error) × Becomes (λ before after. Q before error after) old new
+
+-- each field line of a map
+abbrev pub header_lines : Entries FieldValue → List Header
+header_lines fields = map (λ line. (line.0, line.1.bytes)) (pairs fields)
+
+-- the origin's response that waits has these field lines after those that are forwarded
+abbrev pub AddsLines : List Header → HeldGate → HeldGate → Result (Unit {0}) Failure → Type 0
+AddsLines lines = WritesBy (λ before after. (h : Heard) × Adds h lines before after)
+    (λ before error after. RefusesAdding lines before error after)
+
+-- The lines are those of a section. If one of them is no field, or an allocation fails, nothing changes.
+abbrev pub AddsSection : List ℕ → HeldGate → HeldGate → Result (Unit {0}) Failure → Type 0
+AddsSection section old new (Ok tt) =
+    (fields : Entries FieldValue) × Holds section fields × AddsLines (header_lines fields) old new (Ok tt)
+AddsSection section old new (Err failure) =
+    ((IsMapOf section (Err failure) ⊎ (failure ≡ Memory)) × (new ≡ old))
+    ⊎ ((fields : Entries FieldValue) × Holds section fields × AddsLines (header_lines fields) old new (Err failure))
 
 abbrev pub is_head : Option AskedRequest → Bool
 is_head (Some a) = bytes_eq a.head.method (codes "HEAD")

@@ -1,5 +1,5 @@
 -- Which target a CONNECT may go to (RFC 9110, section 9.3.6).
-use Rattle.std.specs.Prelude.{◌≡◌, ℕ, suc, true, List, [], ◌∷◌, bytes_eq, codes, if◌then◌else◌, Option, Some, None}
+use Rattle.std.specs.Prelude.{◌≡◌, ℕ, true, List, bytes_eq, codes, position, if◌then◌else◌, Option, Some, None}
 use Rattle.{std.specs.Prelude.{Result, Ok, Err}, headers_section.specs.Section.input_lines}
 use Rattle.headers_syntax.specs.AsciiCase.{same_name}
 use Rattle.gateway_exchange.specs.declared.connection.GatewayConnection.{GatewayConnection}
@@ -8,17 +8,15 @@ use Rattle.c_parts.specs.declared.status.Failure.{Failure, TheVariants.{Refused,
 use Rattle.c_handles.specs.declared.held.HeldGate.{HeldGate}
 use Rattle.c_gate.specs.{Answers.AnswersBy, Calls.Becomes}
 
--- The number of the first of these texts, counted from this one, that is the authority: the same host, in any case
--- (section 4.2.3), and the same port. One in another spelling is another.
-unfoldable pub place_from : ℕ → (authority : List ℕ) → (targets : List (List ℕ)) → Option ℕ
-place_from n authority [] = None
-place_from n authority (target ∷ targets) =
-    if same_name target authority then Some n else place_from (suc n) authority targets
+-- The number of the first of these texts that is the authority: the same host, in any case (section 4.2.3), and the
+-- same port. One in another spelling is another.
+abbrev pub place_in : (targets : List (List ℕ)) → (authority : List ℕ) → Option ℕ
+place_in targets authority = position (λ target. same_name target authority) targets
 
 -- The same of the target of a CONNECT, which is an authority. `None` if the request is no CONNECT.
 abbrev pub place_for : List ℕ → AskedRequest → Option (Option ℕ)
 place_for targets a =
-    if bytes_eq a.head.method (codes "CONNECT") then Some (place_from 0 a.outgoing.target (input_lines targets))
+    if bytes_eq a.head.method (codes "CONNECT") then Some (place_in (input_lines targets) a.outgoing.target)
     else None
 
 abbrev pub place_asked : List ℕ → Option AskedRequest → Option (Option ℕ)

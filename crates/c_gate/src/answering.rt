@@ -4,15 +4,18 @@ ghost use Rattle.headers.specs.LineMap.{lines_at};
 ghost use Rattle.http1.specs.Head.{pairs};
 ghost use Rattle.http1_typed.specs.Parts.{reason_of};
 ghost use Rattle.gateway_exchange.specs.Steps.{Passes};
+ghost use Rattle.c_gate.specs.Answers.{AddsLines, AddsSection, header_lines};
 ghost use Rattle.c_gate.specs.Answers.{AnswersNumber, EndsPieces, IsStated, PushesPiece, Responds, RespondsWith};
 ghost use Rattle.c_gate.specs.Answers.{is_head, kept_lines, may_state, size_of, stated_lines, write_failure};
 ghost use Rattle.c_gate.specs.Calls.{Does, OnGate};
+ghost use Rattle.gateway_messages.specs.FieldLines.{fields_of};
 
 use crate::calling::change;
 use c_decisions::read_status;
 use c_handles::{Handle, HeldGate};
 use c_parts::{Failure, HashKeys, read_map};
 use gateway_exchange::AskedRequest;
+use gateway_messages::FieldLine;
 use headers::{ContentLength, HeaderMap, HeaderMapExt, HeaderValue};
 use http::{Method, StatusCode};
 use http1::{BodySize, Header, WriteError};
@@ -54,6 +57,54 @@ pub fn pass(alloc: Global, handle: &mut Handle) -> Result<(), Failure>
     ensures { OnGate (Does Passes) handle.old.held handle.new.held result }
 {
     change(alloc, handle, pass_in)
+}
+
+fn added_of(alloc: Global, fields: &HeaderMap) -> Result<Vec<FieldLine>, AllocError>
+    ensures { IfOk result (λ added. fields_of added.items ≡ header_lines fields.now) }
+{
+    let mut added = Vec::new(alloc);
+    for (name, value) in fields.iter() {
+        added.push(FieldLine {
+            name: name.clone()?,
+            value: value.clone()?,
+        })?;
+    }
+    Ok(added)
+}
+
+fn add_lines(gate: &mut HeldGate, added: Vec<FieldLine>) -> Result<(), Failure>
+    ensures { AddsLines (fields_of added.items) gate.old gate.new result }
+{
+    match gate.connection.add_fields(added) {
+        Ok(()) => Ok(()),
+        Err(error) => Err(failure_of(error)),
+    }
+}
+
+fn add_in(
+    alloc: Global,
+    gate: &mut HeldGate,
+    section: &[u8],
+    keys: &HashKeys,
+) -> Result<(), Failure>
+    ensures { AddsSection section.now gate.old gate.new result }
+{
+    let fields = read_map(alloc, section, keys)?;
+    let added = added_of(alloc, &fields)?;
+    add_lines(gate, added)
+}
+
+/// Adds these field lines to the origin's response that waits, after those that are forwarded. Rejected if none waits,
+/// a line of the section is no field, or one is a field that `add_fields` rejects.
+pub fn add(
+    alloc: Global,
+    handle: &mut Handle,
+    section: &[u8],
+    keys: &HashKeys,
+) -> Result<(), Failure>
+    ensures { OnGate (AddsSection section.now) handle.old.held handle.new.held result }
+{
+    change(alloc, handle, |gate| add_in(alloc, gate, section, keys))
 }
 
 // The field lines of a map except those of Content-Length.

@@ -4,7 +4,7 @@ ghost use Rattle.headers_section.specs.Section.{input_lines};
 ghost use Rattle.headers_syntax.specs.AsciiCase.{same_name};
 ghost use Rattle.gateway_exchange.specs.Steps.{Connects};
 ghost use Rattle.c_gate.specs.{Calls.{Does, OnGate}, Connecting.{ConnectsAt, ConnectsTo, place_asked}};
-ghost use Rattle.c_gate.specs.Connecting.{place_for, place_from};
+ghost use Rattle.c_gate.specs.Connecting.{place_for, place_in};
 
 use crate::calling::change;
 use c_handles::{Handle, HeldGate};
@@ -20,9 +20,9 @@ fn is_target(target: &[u8], authority: &[u8]) -> bool
 }
 
 // The number of the first of these lines that is the authority.
-#[tactic(auto, unfolding(crate::specs::Connecting::place_from))]
+#[tactic(auto, using(crate::proofs::ConnectLemmas::place_is))]
 fn place_of(authority: &[u8], targets: &[u8]) -> Option<u64>
-    ensures { result ≡ place_from 0 authority.now (input_lines targets.now) }
+    ensures { result ≡ place_in (input_lines targets.now) authority.now }
 {
     let mut rest = targets;
     let mut place = 0;

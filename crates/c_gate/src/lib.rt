@@ -10,10 +10,11 @@ mod connecting;
 mod forwarding;
 mod moving;
 mod opening;
+pub mod pool;
 mod reading;
 mod routing;
 
-pub use crate::answering::{answer, end, pass, push, respond};
+pub use crate::answering::{add, answer, end, pass, push, respond};
 pub use crate::connecting::{connect_to, connected};
 pub use crate::forwarding::{again, closes_after, forward, set_conditions, take_origin};
 pub use crate::moving::{

@@ -22,7 +22,7 @@ lost_begin request now old new stepped facts begun =
     entered place key (inr (collapses, (number, enters, is))) =
         inr (Ok number, subst (λ (target : List ℕ). Enters target now old.queue new.queue (Ok number)) key enters)
 
-    looked : (IsAhead old.queue stepped.pass now None × IsStarted now old new begun.pass stepped facts)
+    looked : (IsAhead old.queue stepped.pass now None × IsStarted now old new begun.pass stepped None facts)
         ⊎ (IsWaiting now old new begun.pass stepped × (facts ≡ waiting)) → IsLookedUp request now old new
     looked (inl (alone, started)) = record {
       does = subst (λ (key : List ℕ). Does (settings_of old.cache) (Looked key) (kept_of old.cache) (kept_of new.cache))

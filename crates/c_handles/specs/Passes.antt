@@ -72,3 +72,8 @@ ShowsFields (Some stepped) answer = answer ≡ Ok stepped.text.items
 abbrev pub ShowsItsValidation : Option Stepped → Result (Vec ℕ) Failure → Type 0
 ShowsItsValidation None answer = answer ≡ Err Absent
 ShowsItsValidation (Some stepped) answer = ShowsValidation stepped.pass answer
+
+-- the field line that says what it comes to
+abbrev pub ShowsItsStatus : List ℕ → Option Stepped → Result (Vec ℕ) Failure → Type 0
+ShowsItsStatus name None answer = answer ≡ Err Absent
+ShowsItsStatus name (Some stepped) answer = IsStatusLine name stepped answer

@@ -7,6 +7,7 @@ use decide_resource::Resource;
 use gateway_connection::OriginConnection;
 use gateway_exchange::{GatewayConnection, GatewayRules, Tunnel};
 use gateway_hops::Scheme;
+use gateway_pool::Pool;
 use headers::HeaderMap;
 use server_connection::{ResponsePlan, ServerConnection};
 
@@ -57,4 +58,6 @@ pub enum Held {
     GateRules(GatewayRules),
     /// A connection to an origin.
     GateOrigin(OriginConnection),
+    /// The connections to origins.
+    GatePool(Pool),
 }

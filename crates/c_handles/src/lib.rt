@@ -23,7 +23,7 @@ pub use crate::opening::{
 };
 pub use crate::passing::{
     begin_pass, copy_pass_content, pass_came, pass_ended, pass_failed, pass_received, pass_resume,
-    pass_validation, remove_stored, write_pass_fields,
+    pass_status, pass_validation, remove_stored, write_pass_fields,
 };
 pub use crate::policy::{CorsExchange, answer_cross_origin};
 pub use crate::resource::answer_as_resource;

@@ -4,13 +4,13 @@ ghost use Rattle.c_parts.specs.Endings.{Writes, done};
 ghost use Rattle.c_pass.{specs.Caches.Removes, specs.Steps.{Begins, Comes, Ends, Fails, Receives}};
 ghost use Rattle.c_pass.specs.Steps.{Resumes};
 ghost use Rattle.c_handles.{specs.Handles.pass_in, specs.Passes.{BeginsThrough, CopiesContent, OnBoth, OnCache}};
-ghost use Rattle.c_handles.{specs.Passes.{OnPass, ShowsFields, ShowsItsValidation}, specs.Views.IsSame};
+ghost use Rattle.c_handles.{specs.Passes.{OnPass, ShowsFields, ShowsItsStatus, ShowsItsValidation}, specs.Views.IsSame};
 
 use crate::handle::Handle;
 use crate::held::Held;
 use crate::view::{Lent, View};
 use c_parts::{DONE, Failure, copy_into};
-use c_pass::{CacheRequest, PassFacts, Stepped, copy_content, validation_text};
+use c_pass::{CacheRequest, PassFacts, Stepped, copy_content, status_line, validation_text};
 use std::alloc::Global;
 
 fn begin_in(
@@ -306,6 +306,26 @@ pub fn pass_validation(alloc: Global, pass: &mut View) -> Result<Vec<u8>, Failur
 {
     let lent = pass.take();
     let text = validation_in(alloc, &lent);
+    pass.put(lent);
+    text
+}
+
+fn status_in(alloc: Global, lent: &Lent, name: &[u8]) -> Result<Vec<u8>, Failure>
+    ensures { ShowsItsStatus name.now (pass_in lent.now.loan.held) result }
+{
+    match lent.pass() {
+        Some(stepped) => status_line(alloc, stepped, name),
+        None => Err(Failure::Absent),
+    }
+}
+
+/// The field line of Cache-Status that says what a pass comes to, by a cache of this name.
+pub fn pass_status(alloc: Global, pass: &mut View, name: &[u8]) -> Result<Vec<u8>, Failure>
+    ensures same { IsSame pass.old pass.new }
+    ensures text { ShowsItsStatus name.now (pass_in pass.old.held) result }
+{
+    let lent = pass.take();
+    let text = status_in(alloc, &lent, name);
     pass.put(lent);
     text
 }

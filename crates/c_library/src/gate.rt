@@ -4,7 +4,7 @@ ghost use Rattle.gateway_exchange.specs.Steps.{AsksAgain, Connects, Passes, Time
 ghost use Rattle.c_parts.specs.Endings.{Gives, TellsAndWrites, Writes, done};
 ghost use Rattle.c_decisions.specs.Flags.{flag_of};
 ghost use Rattle.c_handles.specs.Handles.{OnHeld, Opens};
-ghost use Rattle.c_gate.specs.Answers.{AnswersNumber, EndsPieces, PushesPiece, Responds};
+ghost use Rattle.c_gate.specs.Answers.{AddsSection, AnswersNumber, EndsPieces, PushesPiece, Responds};
 ghost use Rattle.c_gate.specs.{Calls.{Does, OnGate, gate_in, rules_in}, Moves.{Asks, Finishes, OpensTunnel, Receives}};
 ghost use Rattle.c_gate.specs.{Moves.{Sent, SetsClock, TellsNext}, Openings.{IsGateHeld, IsOriginHeld, IsRulesHeld}};
 ghost use Rattle.c_gate.specs.Connecting.{ConnectsTo};
@@ -17,7 +17,7 @@ ghost use Rattle.c_library.specs.CacheStore.{Ends};
 use crate::giving::give;
 use crate::store::ended;
 use c_gate::{
-    GateFacts, GatePeer, GateRules, GateText, again, answer, ask_for, closes_after, connect_to,
+    GateFacts, GatePeer, GateRules, GateText, add, again, answer, ask_for, closes_after, connect_to,
     connected, end, fields_of, finish, forward, is_for, key_of, next, open_gate, open_origin,
     open_rules, open_tunnel, own_of, pass, push, receive, respond, response_of, sent, set_clock,
     set_conditions, take_origin, timed_out, write_output, write_text,
@@ -405,6 +405,19 @@ pub extern "C" fn typed_headers_gate_response(
         }
         Err(failure) => failure.status(),
     }
+}
+
+/// Adds these field lines to it.
+#[unsafe(no_mangle)]
+pub extern "C" fn typed_headers_gate_add(
+    alloc: Global,
+    gate: &mut Handle,
+    section: &[u8],
+    keys: &HashKeys,
+) -> u8
+    ensures { Ends (OnGate (AddsSection section.now) gate.old.held gate.new.held) result }
+{
+    ended(add(alloc, gate, section, keys))
 }
 
 /// Forwards it.

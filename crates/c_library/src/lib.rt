@@ -18,6 +18,7 @@ mod handshake;
 mod media_type;
 mod negotiation;
 mod policies;
+mod pool;
 mod preconditions;
 mod ranges;
 mod resource;

@@ -6,13 +6,14 @@ ghost use Rattle.c_pass.specs.Steps.{Receives, Resumes};
 ghost use Rattle.c_handles.{specs.Handles.{Opens, pass_in}, specs.Passes.{BeginsThrough, CopiesContent}};
 ghost use Rattle.c_handles.specs.Views.{IsSame};
 ghost use Rattle.c_handles.specs.Passes.{IsCacheHeld, OnBoth, OnCache, OnPass, ShowsFields, ShowsItsValidation};
+ghost use Rattle.c_handles.specs.Passes.{ShowsItsStatus};
 ghost use Rattle.c_library.specs.CacheStore.{Ends, TellsNumber, ended};
 
 use crate::giving::give;
 use c_handles::{
     Handle, View, begin_pass, close, copy_pass_content, open_cache, open_cache_with, pass_came,
-    pass_ended, pass_failed, pass_received, pass_resume, pass_validation, remove_stored,
-    write_pass_fields,
+    pass_ended, pass_failed, pass_received, pass_resume, pass_status, pass_validation,
+    remove_stored, write_pass_fields,
 };
 use c_parts::{DONE, Failure, HashKeys, copy_into};
 use c_pass::{CacheExtensions, CacheOptions, CacheRequest, PassFacts};
@@ -179,6 +180,25 @@ pub extern "C" fn typed_headers_pass_validation(
     ensures same { IsSame pass.old pass.new }
 {
     match pass_validation(alloc, pass) {
+        Ok(text) => copy_into(text.as_slice(), DONE, room, written),
+        Err(failure) => failure.status(),
+    }
+}
+
+/// Writes the field line of Cache-Status that says what the pass comes to.
+#[unsafe(no_mangle)]
+pub extern "C" fn typed_headers_pass_status(
+    alloc: Global,
+    pass: &mut View,
+    name: &[u8],
+    room: &mut [u8],
+    written: &mut usize,
+) -> u8
+    ensures line { Writes (λ text. text.items) (λ _. done) (ShowsItsStatus name.now (pass_in pass.old.held))
+        room.old room.new written.old written.new result }
+    ensures same { IsSame pass.old pass.new }
+{
+    match pass_status(alloc, pass, name) {
         Ok(text) => copy_into(text.as_slice(), DONE, room, written),
         Err(failure) => failure.status(),
     }

@@ -38,6 +38,7 @@ pub record IsNew (options : CacheOptions) (by : Policy) (wait : ℕ) (keys : Has
   pub next : shared.queue.next ≡ 0
   pub keys_are : shared.keys ≡ keys
   pub most_is : shared.most ≡ options.bytes
+  pub guess_is : shared.guess ≡ options.guess
 
 -- it is made so, unless memory ran out
 abbrev pub IsMade : (Shared → Type 0) → Result Shared Failure → Type 0
@@ -56,10 +57,11 @@ IsExtended options extensions keys (Err Memory) = ⊤
 IsExtended options extensions keys (Err Absent) = ⊥
 IsExtended options extensions keys (Err TooLarge) = ⊥
 
--- the keys and the limit stay as they were
+-- the keys, the limit and the longest guess stay as they were
 pub record IsSameBeside (old new : Shared) : Type 0 where
   pub keys : new.keys ≡ old.keys
   pub most : new.most ≡ old.most
+  pub guess : new.guess ≡ old.guess
 
 -- what is stored under the target is removed, and the removal is noted
 pub record IsRemoved (target : List ℕ) (old new : Shared) : Type 0 where

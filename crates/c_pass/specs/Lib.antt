@@ -3,6 +3,7 @@ pub mod Names
 pub mod Outcomes
 pub mod Reading
 pub mod Sending
+pub mod Status
 pub mod Steps
 pub mod Telling
 pub mod Validating

@@ -1,5 +1,5 @@
 -- What a step of a pass comes to: the number of what is done, and by what.
-use Rattle.std.specs.Prelude.{ℕ, Option, Some, None, true, false}
+use Rattle.std.specs.Prelude.{Option, Some, None, true, false}
 use Rattle.cache_pass.{specs.declared.replying.First.First, specs.declared.replying.Reply.Reply}
 use Rattle.cache_pass.specs.declared.replying.First.TheVariants as first
 use Rattle.cache_pass.specs.declared.revalidating.Next.{Next}

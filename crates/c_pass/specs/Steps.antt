@@ -14,6 +14,7 @@ use Rattle.{c_decisions.specs.StatusCodes.IsStatusOf, c_parts.specs.{Endings.{Is
 use Rattle.c_parts.specs.declared.status.Failure.{Failure, TheVariants.{Memory, Absent}}
 use Rattle.c_pass.specs.{Outcomes.{failed_outcome, first_outcome, next_outcome}, Caches.IsSameBeside, Waiting.IsAhead}
 use Rattle.c_pass.specs.{Waiting.{IsPlaced, IsSettled, IsUnplaced}, declared.held.Place.TheVariants.{Apart, Waiting}}
+use Rattle.c_pass.specs.{Status.{IsStanding, with_status}, declared.status.Course.Course}
 use Rattle.c_pass.specs.declared.{held.{Shared.Shared, Stepped.Stepped}, outcome.PassOutcome.PassOutcome}
 use Rattle.c_pass.specs.declared.{reading.CacheRequest.CacheRequest, telling.PassFacts.PassFacts}
 use Rattle.c_pass.specs.{Reading.{FailsRequest, IsRequest, asked_by}, Telling.{TakesMemory, is_head, outcome_told}}
@@ -41,11 +42,12 @@ IsUnstarted pass now old new outcome = (TakesMemory outcome × (new ≡ old)) �
 -- the first step of a pass
 
 module _ (now : ℕ) (old new : Shared) (pass : Pass) (stepped : Stepped) where
-  -- it is made, and told
-  pub record IsStarted (facts : PassFacts) : Type 0 where
+  -- It is made, and told. If the pass waited for another, this was to become of it when it began.
+  pub record IsStarted (earlier : Option Course) (facts : PassFacts) : Type 0 where
     pub first : First
     pub begun : HasBegun pass old.cache now stepped.pass new.cache (Ok first)
     pub tells : Tells now new stepped (first_outcome first) facts
+    pub standing : IsStanding old.guess now new.cache stepped.pass first earlier stepped.standing
     pub content : stepped.content ≡ None
     pub place : IsPlaced stepped.pass now old.queue new.queue stepped.place
     pub beside : IsSameBeside old new
@@ -61,6 +63,7 @@ module _ (now : ℕ) (old new : Shared) (pass : Pass) (stepped : Stepped) where
     pub place : stepped.place ≡ Waiting number
     pub same : IsSameRequest asking stepped.pass
     pub began : stepped.pass.phase ≡ Began
+    pub standing : IsStanding old.guess now new.cache asking first None stepped.standing
     pub silent : IsSilent stepped
     pub content : stepped.content ≡ None
     pub queue : new.queue ≡ old.queue
@@ -76,7 +79,7 @@ module _ (request : CacheRequest) (now : ℕ) (old new : Shared) where
     pub pass : Pass
     pub key : key_of pass ≡ request.target.now
     pub asks : request_of_pass pass ≡ asked_by request fields
-    pub begins : (IsAhead old.queue stepped.pass now None × IsStarted now old new pass stepped facts)
+    pub begins : (IsAhead old.queue stepped.pass now None × IsStarted now old new pass stepped None facts)
         ⊎ (IsWaiting now old new pass stepped × (facts ≡ waiting))
 
   -- What is stored was looked up, and that is all. It may be that others wait for the request, until their time is
@@ -150,7 +153,7 @@ module _ (now : ℕ) (old : Shared) (before : Stepped) (new : Shared) (after : S
   abbrev pub Resumes : Result PassFacts Failure → Type 0
   Resumes (Ok facts) =
       (HasWaited true × (facts ≡ waiting) × IsUnchanged old before new after)
-      ⊎ (HasWaited false × IsStarted now old new before.pass after facts)
+      ⊎ (HasWaited false × IsStarted now old new before.pass after (Some before.standing.course) facts)
   Resumes (Err failure) =
       ((failure ≡ Absent) × IsNotWaiting × IsUnchanged old before new after)
       ⊎ ((failure ≡ Memory) × HasWaited false × IsStartLost)
@@ -164,6 +167,7 @@ module _ (now : ℕ) (old : Shared) (before : Stepped) (new : Shared) (after : S
       pub come : HasCome before.pass old.cache status response now after.pass new.cache next
       pub content : content_of after ≡ Some []
       pub most : after.most ≡ old.most
+      pub standing : after.standing ≡ with_status status before.standing
       pub place : IsSettled after.pass.phase before.place old.queue new.queue after.place
       pub beside : IsSameBeside old new
 
@@ -181,6 +185,7 @@ module _ (now : ℕ) (old : Shared) (before : Stepped) (new : Shared) (after : S
   pub record IsFailed (found : Result (Option Reply) AllocError) : Type 0 where
     pub failed : HasFailed before.pass old.cache now after.pass new.cache found
     pub content : after.content ≡ before.content
+    pub standing : after.standing ≡ before.standing
     pub place : IsSettled after.pass.phase before.place old.queue new.queue after.place
     pub beside : IsSameBeside old new
 
@@ -201,6 +206,7 @@ module _ (now : ℕ) (old : Shared) (before : Stepped) (new : Shared) (after : S
       pub place : IsSettled after.pass.phase before.place old.queue new.queue after.place
       pub shown : after.shown ≡ before.shown
       pub text : after.text ≡ before.text
+      pub standing : after.standing ≡ before.standing
       pub beside : IsSameBeside old new
 
     -- `Absent` if no response is forwarded that is to be stored
@@ -228,6 +234,7 @@ module _ (piece : List ℕ) (before after : Stepped) where
     pub shown : after.shown ≡ before.shown
     pub text : after.text ≡ before.text
     pub place : after.place ≡ before.place
+    pub standing : after.standing ≡ before.standing
 
   -- The piece is kept with those before it. `Absent` if no response to be stored is forwarded. If memory runs out
   -- for bytes that would be kept, nothing is from now on.

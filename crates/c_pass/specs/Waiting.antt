@@ -2,7 +2,7 @@
 use Rattle.std.specs.Prelude.{◌≡◌, ◌⊎◌, ℕ, Option, Some, None, Ok, Err, alloc_error}
 use Rattle.cache_pass.specs.{Passes.key_of, Queue.{Collapses, Enters, HasLeft, number_ahead}, declared.pass.Pass.Pass}
 use Rattle.cache_pass.specs.declared.{pass.Phase.{Phase, TheVariants.Ended}, queue.Queue.Queue}
-use Rattle.c_pass.specs.declared.held.Place.{Place, TheVariants.{Apart, Ahead, Waiting}}
+use Rattle.c_pass.specs.declared.held.Place.{Place, TheVariants.{Apart, Ahead}}
 
 -- the number of the request for which a pass waits before it asks
 abbrev pub IsAhead : Queue → Pass → ℕ → Option ℕ → Type 0

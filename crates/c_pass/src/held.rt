@@ -1,5 +1,6 @@
 //! What a cache and a pass are behind handles.
 
+use crate::status::Standing;
 use bytes::Bytes;
 use c_parts::HashKeys;
 use cache_pass::{Cache, Pass, Queue};
@@ -15,6 +16,8 @@ pub struct Shared {
     pub keys: HashKeys,
     /// How many bytes the store may have in all.
     pub most: usize,
+    /// For how many seconds the cache guesses at most that a response is fresh.
+    pub guess: u64,
 }
 
 /// Where a pass is in the queue of its cache.
@@ -43,4 +46,6 @@ pub struct Stepped {
     pub most: usize,
     /// Where it is in the queue.
     pub place: Place,
+    /// What it comes to, as Cache-Status says it.
+    pub standing: Standing,
 }

@@ -11,6 +11,7 @@ mod outcome;
 mod reading;
 mod removing;
 mod sending;
+mod status;
 mod stepping;
 mod telling;
 mod validating;
@@ -22,6 +23,7 @@ pub use crate::opening::{CacheExtensions, CacheOptions, new_cache, new_cache_wit
 pub use crate::outcome::{By, PassOutcome};
 pub use crate::reading::CacheRequest;
 pub use crate::removing::remove;
+pub use crate::status::{Course, ForwardReason, Standing, status_line};
 pub use crate::stepping::{begin, came, ended, failed, received, resume};
 pub use crate::telling::PassFacts;
 pub use crate::validating::validation_text;

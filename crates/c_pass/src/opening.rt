@@ -81,6 +81,7 @@ fn cache_of(
         queue: Queue::new(alloc, wait),
         keys: *keys,
         most: options.bytes,
+        guess: options.guess,
     })
 }
 

@@ -11,6 +11,7 @@ ghost use Rattle.c_pass.specs.declared.held.Place.TheVariants.{Apart};
 use crate::held::{Place, Shared, Stepped};
 use crate::outcome::{PassOutcome, failed_outcome, first_outcome, next_outcome};
 use crate::reading::{CacheRequest, read_target};
+use crate::status::{Standing, first_standing};
 use crate::telling::{PassFacts, tell, waiting};
 use crate::waiting::{ahead, enter, settle};
 use bytes::Bytes;
@@ -42,6 +43,7 @@ fn tell_step(
     ensures content { stepped.new.content ≡ stepped.old.content }
     ensures most { stepped.new.most ≡ stepped.old.most }
     ensures place { stepped.new.place ≡ stepped.old.place }
+    ensures standing { stepped.new.standing ≡ stepped.old.standing }
     ensures ok { IfOk result (Tells now shared.now stepped.new outcome) }
     ensures err { IfErr result (λ failure. (failure ≡ Memory) × TakesMemory outcome × (stepped.new ≡ stepped.old)) }
 {
@@ -52,9 +54,10 @@ fn tell_step(
 }
 
 // A pass that nothing was told of.
-fn stepped_at(alloc: Global, pass: Pass, place: Place) -> Stepped
+fn stepped_at(alloc: Global, pass: Pass, place: Place, standing: Standing) -> Stepped
     ensures pass { result.pass ≡ pass }
     ensures place { result.place ≡ place }
+    ensures standing { result.standing ≡ standing }
     ensures content { result.content ≡ None }
     ensures silent { IsSilent result }
 {
@@ -65,6 +68,7 @@ fn stepped_at(alloc: Global, pass: Pass, place: Place) -> Stepped
         content: None,
         most: 0,
         place,
+        standing,
     }
 }
 
@@ -73,6 +77,7 @@ fn restart(alloc: Global, stepped: &mut Stepped)
     ensures pass { stepped.new.pass ≡ stepped.old.pass }
     ensures place { stepped.new.place ≡ Apart }
     ensures content { stepped.new.content ≡ None }
+    ensures standing { stepped.new.standing ≡ stepped.old.standing }
     ensures silent { IsSilent stepped.new }
 {
     silence(alloc, stepped);
@@ -90,6 +95,7 @@ fn tell_first(
 ) -> Result<PassFacts, Failure>
     ensures pass { stepped.new.pass ≡ stepped.old.pass }
     ensures content { stepped.new.content ≡ None }
+    ensures standing { stepped.new.standing ≡ stepped.old.standing }
     ensures cache { shared.new.cache ≡ shared.old.cache }
     ensures beside { IsSameBeside shared.old shared.new }
     ensures ok { IfOk result (λ facts. Tells now shared.new stepped.new (first_outcome first) facts
@@ -130,14 +136,15 @@ pub fn begin(
         unreachable!()
     };
     let first = begun?;
+    let found = first_standing(shared, &pass, &first, now, None);
     match ahead(&shared.queue, &pass, now) {
         Some(number) => {
-            let stepped = stepped_at(alloc, pass.anew(), Place::Waiting(number));
+            let stepped = stepped_at(alloc, pass.anew(), Place::Waiting(number), found);
             return Ok((stepped, waiting()));
         }
         None => {}
     }
-    let mut stepped = stepped_at(alloc, pass, Place::Apart);
+    let mut stepped = stepped_at(alloc, pass, Place::Apart, found);
     let facts = tell_first(alloc, shared, &mut stepped, first, now)?;
     Ok((stepped, facts))
 }
@@ -158,7 +165,11 @@ pub fn resume(
         return Ok(waiting());
     }
     match stepped.pass.begin(&mut shared.cache, alloc, now) {
-        Ok(Ok(first)) => tell_first(alloc, shared, stepped, first, now),
+        Ok(Ok(first)) => {
+            let earlier = stepped.standing.course;
+            stepped.standing = first_standing(shared, &stepped.pass, &first, now, Some(earlier));
+            tell_first(alloc, shared, stepped, first, now)
+        }
         Ok(Err(AllocError)) => {
             restart(alloc, stepped);
             Err(Failure::Memory)
@@ -187,6 +198,7 @@ pub fn came(
         Ok(next) => {
             stepped.content = Some(Vec::new(alloc));
             stepped.most = shared.most;
+            stepped.standing.came = Some(status.as_u16());
             stepped.place = settle(&mut shared.queue, stepped.pass.phase(), stepped.place);
             silence(alloc, stepped);
             tell_step(alloc, shared, stepped, next_outcome(next?), now)

@@ -12,19 +12,20 @@ use Rattle.gateway_connection.{specs.Exchanges.Request, proofs.HistoryLemmas.{co
 use Rattle.gateway_connection.proofs.HistoryLemmas.{interim_late, says_final, switch_late}
 use Rattle.http1.specs.Client as Http
 use Rattle.gateway_messages.specs.Responses as Responses
-use Rattle.gateway_exchange.specs.{Passing.{IsSwitched, answered}, Decisions.IsDecision}
+use Rattle.gateway_exchange.specs.{Passing.{IsSwitched, answered, head_lines}, Decisions.IsDecision}
 use Rattle.gateway_messages.specs.{Responses.{IsForwardedResponse, is_known_to}, declared.protocol.Protocol.Protocol}
 use Rattle.gateway_messages.specs.declared.protocol.Protocol.TheVariants as Speaks
-use Rattle.gateway_parts.specs.Messages.{protocol_of}
+use Rattle.gateway_exchange.specs.Messages.{protocol_of}
 use Rattle.server_stream.specs.Exchanges.{Answer, Bare, Begun, Exchange, Final, Response, Switched}
 use Rattle.server_stream.specs.History as Stream
 use Rattle.server_stream.specs.Steps as StreamSteps
 use Rattle.server_stream.specs.declared.connection.StreamConnection.{StreamConnection}
 use Rattle.server_stream.specs.declared.event.{StreamRequest.StreamRequest, StreamEvent.StreamEvent}
 use Rattle.gateway_exchange.specs.History.{AreServed, HasHead, IsFor, IsGiven, IsHeard, IsIn, IsPassedOn, AreFieldsOf}
+use Rattle.gateway_exchange.specs.History.{Added, Addition, AreAdded, IsForwarded}
 use Rattle.gateway_exchange.specs.History.{AreInterim, AreInterimNow, IsInterim, IsSwitch, own_interim, EndsAs}
 use Rattle.gateway_exchange.specs.History.{GivenHead, IsDecided, IsFrontOf, IsServedNow, Served, Traffic, Uses}
-use Rattle.gateway_exchange.specs.History.{WentOver, head_of, no_past, on_last, receives, traffic_of, writes}
+use Rattle.gateway_exchange.specs.History.{WentOver, head_of, on_last, receives, traffic_of, writes}
 use Rattle.gateway_exchange.specs.History.{written_of, IsReached, OriginIn, Past, Opened, Received, Finished, Written}
 use Rattle.gateway_exchange.specs.History.{OriginReceived, OriginFinished, OriginWritten, Said, Sent, Conditioned}
 use Rattle.gateway_exchange.specs.History.{Answered, Again, Connected, Given, GivenPiece, GivenEnd, NotGiven, NotBegun}
@@ -39,7 +40,7 @@ use Rattle.gateway_exchange.specs.Steps.{PassesPiece, PassesSwitch, PassesUp, Pu
 use Rattle.gateway_exchange.specs.Steps.{RefusesBeginAt, RefusesContent, RefusesEnd, RefusesGiving, RefusesInGiving}
 use Rattle.gateway_exchange.specs.Steps.{Rests, Runs, Went, Says, SaysIn, Sends, Settles, Steps, StepsAt, TakesOrigin}
 use Rattle.gateway_exchange.specs.Steps.{TellsHead, TimesOutAt, Transfers, begun, phase_of, sent_fields, taking}
-use Rattle.gateway_exchange.specs.Steps.{with_client, with_origin}
+use Rattle.gateway_exchange.specs.Steps.{Adds, with_client, with_origin}
 use Rattle.gateway_exchange.specs.declared.connection.{GatewayConnection.GatewayConnection, Stage.Stage}
 use Rattle.gateway_exchange.specs.declared.decision.{AskedRequest.AskedRequest, RequestDecision.RequestDecision}
 use Rattle.gateway_exchange.specs.declared.event.{GatewayEvent.GatewayEvent, ExchangePhase.ExchangePhase}
@@ -47,7 +48,7 @@ use Rattle.gateway_exchange.specs.declared.{date.OwnDate.OwnDate, own.Own.Own, p
 use Rattle.{gateway_exchange.specs.declared.rules.GatewayRules.GatewayRules, http1_typed.specs.Parts.reason_of}
 use Rattle.{http1.specs.declared.conn.BodySize.TheVariants.Known, gateway_messages.specs.FieldLines.fields_of}
 use Rattle.gateway_messages.specs.declared.{gateway.Gateway.Gateway, response.ForwardedResponse.ForwardedResponse}
-use Rattle.gateway_parts.specs.Messages.{request_size, response_size}
+use Rattle.gateway_exchange.specs.Messages.{request_size, response_size}
 use Rattle.gateway_connection.specs.declared.event.OriginEvent.TheVariants as Comes
 use Rattle.gateway_connection.specs.declared.event.OriginFault.TheVariants as Faults
 use Rattle.gateway_exchange.specs.declared.event.GatewayEvent.TheVariants as Tells
@@ -713,7 +714,8 @@ module _ (limits : Limits) (uses : Uses) (lines : List Traffic) where
         asked = a;
         head_is = refl;
         decided = decided;
-        heard = record { response = response; sent = sent };
+        response = response;
+        sent = sent;
         forwarded = (rules, among, date, forwards);
         puts = refl;
         origin = s.0;
@@ -784,7 +786,7 @@ module _ (limits : Limits) (uses : Uses) (lines : List Traffic) where
       → IsAsked uses m.asked (head_of p.heard) a → PutsHead m h between → new ≡ record between { heard = Some h }
       → Loose m p o → Carries m.origin o.now a (Telling h.response []) → IsHeard uses a h → Since (Held new) p
   shows m between new h a p o asked (inl put) last x c forwarded =
-      let fields = closing m.is_last (fields_of h.sent.fields.items) in
+      let fields = closing m.is_last (head_lines h) in
       let r : Response = Stream.begins m.client.server h.response.status h.response.reason fields
       (response_size h.sent.content) in
       let puts : HasHead h [] r = record {
@@ -835,7 +837,8 @@ module _ (limits : Limits) (uses : Uses) (lines : List Traffic) where
       → Http.is_interim response.status ≡ false → IsAsked uses m.asked (head_of p.heard) a → PassesHead
       rules date m a response new → Loose m p o → Carries m.origin o.now a (Telling response []) → Since (Held new) p
   passes_head rules date m new a response p o among final asked (inl h) x c = tells_head m.watches m new
-      (record { response = response; sent = h.0 }) a p o asked h.2 x c (rules, among, date, h.1)
+      (record { response = response; sent = h.0; added = h.2 }) a p o asked h.4 x c
+      ((rules, among, date, h.1), inl (ap fields_of h.3))
   passes_head rules date m new a response p o among final asked (inr (inl h)) x c =
       absurd (known_final (protocol_of a.head.minor) response.status h.0.unknown h.0.accepted.same_protocol final)
   passes_head rules date m new a response p o among final asked (inr (inr (inl h))) x c =
@@ -1352,6 +1355,24 @@ module _ (limits : Limits) (uses : Uses) (lines : List Traffic) where
   refuses_in_giving old new refusal error (inl h) = unchanged h.2
   refuses_in_giving old new refusal error (inr h) = nothing_put old new h.0.0 h.1
 
+  -- what the caller adds to the response that waits
+  adds : (h : Heard) (lines : List Header) (old new : GatewayConnection)
+      → IsIn (record { response = h.response; lines = lines }) uses.added → Adds h lines old new → Leads old new
+  adds h lines old new among a = record {
+    step = λ p o x.
+        let t = tied_at old p o At.Judging a.0 x in
+        let same : t.0.h ≡ h = cc (sym t.0.is ∙ a.1) in
+        let c = subst (λ (g : Heard). Carries old.origin o.now t.0.a (Telling g.response [])) same t.1 in
+        let forwarded = subst (λ (g : Heard). IsForwarded uses t.0.a g.response g.sent) same t.0.forwarded.0 in
+        let g : Heard = record h { added = a.3 } in
+        let added = subst (λ (l : List Header). AreAdded uses h.response l) (sym a.4) (inr (among, a.2)) in
+        let judged : Judged uses old.asked (head_of p.heard) (Some g) =
+        record { a = t.0.a; asked_is = t.0.asked_is; h = g; is = refl; forwarded = (forwarded, added) } in
+        let tied = subst (λ (s : Stage). TiedAt uses s (parts_of (record old { heard = Some g }) p o)) (sym a.0)
+        (judged, c) in
+        after p a.5 (p, o, (x.0, tied), refl, refl);
+  }
+
   passes : (old new : GatewayConnection) → Passes old new → Leads old new
   passes old new (inl h) = record {
     step = λ p o x.
@@ -1489,6 +1510,7 @@ origin_writes limits old lines count before after h = λ o older is r line. (
 abbrev Grows : Uses → Uses → Type 0
 Grows old new = (new.peer ≡ old.peer) × ((r : GatewayRules) → IsIn r old.rules → IsIn r new.rules) × ((head : GivenHead)
     → IsIn head old.given → IsIn head new.given) × ((t : Traffic) → WentOver t old.traffic → WentOver t new.traffic)
+    × ((a : Addition) → IsIn a old.added → IsIn a new.added)
 
 on_last_grows : (f : Traffic → Traffic) → ((t all : Traffic) → IsFrontOf t all → IsFrontOf t (f all))
     → (lines : List Traffic) (t : Traffic) → WentOver t lines → WentOver t (on_last f lines)
@@ -1560,7 +1582,7 @@ runs limits uses (OriginReceived old new p bytes before h) g =
     let f : (t : Traffic) → Traffic = receives (is_origin_open old.origin) bytes in
     let lines = p.uses.traffic in
     let r = runs limits uses before
-    (g.0, g.1, g.2, λ t i. g.3 t (on_last_grows f (receives_front (is_origin_open old.origin) bytes) lines t i)) in
+    (g.0, g.1, g.2, λ t i. g.3 t (on_last_grows f (receives_front (is_origin_open old.origin) bytes) lines t i), g.4) in
     let x = changes_origin limits uses lines (on_last f lines) (ReceivesOrigin bytes) old new r.0 r.1 g.3
     (origin_receives limits old.origin lines bytes) h r.2 in (r.0, x.0, x.1, r.3, r.4)
 runs limits uses (OriginFinished old new p before h) g =
@@ -1577,13 +1599,19 @@ runs limits uses (OriginWritten old new p count before h) g =
     let f : (t : Traffic) → Traffic = writes (written_of count old.origin) in
     let lines = p.uses.traffic in
     let r = runs limits uses before
-    (g.0, g.1, g.2, λ t i. g.3 t (on_last_grows f (writes_front (written_of count old.origin)) lines t i)) in
+    (g.0, g.1, g.2, λ t i. g.3 t (on_last_grows f (writes_front (written_of count old.origin)) lines t i), g.4) in
     let x = changes_origin limits uses lines (on_last f lines) (HandsOutOrigin count) old new r.0 r.1 g.3
     (origin_writes limits old.origin lines count) h r.2 in (r.0, x.0, x.1, r.3, r.4)
 runs limits uses (Said old new p rules date event before h) g = on (says limits uses p.uses.traffic
-    rules date old new event (g.1 rules (inl refl)) h) (runs limits uses before (g.0, λ r i. g.1 r (inr i), g.2, g.3))
+    rules date old new event (g.1 rules (inl refl)) h) (runs limits uses before (
+      g.0,
+      λ r i. g.1 r (inr i),
+      g.2,
+      g.3,
+      g.4,
+    ))
 runs limits uses (Sent old new p origin o watches before at reached h) g =
-    let r = runs limits uses before (g.0, g.1, g.2, λ t i. g.3 t (inr i)) in
+    let r = runs limits uses before (g.0, g.1, g.2, λ t i. g.3 t (inr i), g.4) in
     let w = tied_at limits uses p.uses.traffic old r.0 r.1 At.Asking at r.2 in
     let x = sends limits uses (traffic_of o ∷ p.uses.traffic) old new origin watches r.0 o w
     (r.2.0.0, r.2.0.1, r.2.0.2, tt) (reached, (g.3 (traffic_of o) (went_over refl), p.uses.traffic, refl)) h in
@@ -1599,7 +1627,7 @@ runs limits uses (Connected old new p before h) g =
 runs limits uses (Given old new p status reason fields size before h) g =
     on (freely limits uses p.uses.traffic (gives limits uses p.uses.traffic old new status reason fields size
     (g.2 (record { status = status; reason = reason; fields = fields; size = size }) (inl refl)) h))
-    (runs limits uses before (g.0, g.1, λ head i. g.2 head (inr i), g.3))
+    (runs limits uses before (g.0, g.1, λ head i. g.2 head (inr i), g.3, g.4))
 runs limits uses (GivenPiece old new p piece before at h) g =
     on (gives_piece limits uses p.uses.traffic old new piece at h.0 h.1) (runs limits uses before g)
 runs limits uses (GivenEnd old new p trailers before h) g =
@@ -1608,6 +1636,10 @@ runs limits uses (NotGiven old new p refusal error before h) g =
     on (refuses_in_giving limits uses p.uses.traffic old new refusal error h) (runs limits uses before g)
 runs limits uses (NotBegun old new p status reason fields size error before h) g =
     on (refuses_giving limits uses p.uses.traffic old new status reason fields size error h) (runs limits uses before g)
+runs limits uses (Added old new p h lines before a) g =
+    on (adds limits uses p.uses.traffic h lines old new
+    (g.4 (record { response = h.response; lines = lines }) (inl refl)) a)
+    (runs limits uses before (g.0, g.1, g.2, g.3, λ a i. g.4 a (inr i)))
 runs limits uses (Passed old new p before h) g =
     on (passes limits uses p.uses.traffic old new h) (runs limits uses before g)
 runs limits uses (TimedOut old new p before h) g =
@@ -1634,7 +1666,7 @@ pub record Ran (limits : Limits) (m : GatewayConnection) (p : Past) : Type 0 whe
 
 pub run : {limits : Limits} {m : GatewayConnection} {p : Past} → IsReached limits m p → Ran limits m p
 run {limits} {m} {p} reached =
-    let r = runs limits p.uses reached (refl, λ r i. i, λ head i. i, λ t i. i) in
+    let r = runs limits p.uses reached (refl, λ r i. i, λ head i. i, λ t i. i, λ a i. i) in
     record {
       client = r.0;
       reached = r.2.0.1;

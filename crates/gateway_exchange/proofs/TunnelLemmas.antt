@@ -1,5 +1,5 @@
 -- What is true after every history of calls on a tunnel.
-use Rattle.std.proofs.Common.{◌≡◌, ℕ, List, [], ◌++◌, take, drop, sym, ap, ◌∙◌, append_assoc, append-nil}
+use Rattle.std.proofs.Common.{◌≡◌, ℕ, List, ◌++◌, take, drop, sym, ap, ◌∙◌, append_assoc, append-nil}
 use Rattle.{std.proofs.lemmas.List.take-append-drop, gateway_exchange.specs.Tunnels.{Conveyed, IsReached, Past, Begun}}
 use Rattle.gateway_exchange.specs.Tunnels.{FromClient, FromOrigin, ToClient, ToOrigin, ClientEnded, OriginEnded}
 use Rattle.gateway_exchange.specs.declared.tunnel.Tunnel.{Tunnel}

@@ -1,5 +1,5 @@
 -- What a gateway does with a request (RFC 9110, section 7; RFC 9112, section 3.2).
-use Rattle.std.specs.Prelude.{◌≡◌, ◌⊎◌, ⊤, ℕ, ◌==◌, Bool, true, false, List, [], Option, Some, None, bytes_eq, codes}
+use Rattle.std.specs.Prelude.{◌≡◌, ◌⊎◌, ℕ, ◌==◌, Bool, true, false, List, [], Option, Some, None, bytes_eq, codes}
 use Rattle.std.specs.{Prelude.if◌then◌else◌, Bool.MatchBool}
 use Rattle.http.specs.declared.version.{Version.Version, TheConstants.Version.{HTTP_10, HTTP_11}}
 use Rattle.{headers.specs.{LineMap.lines_at, Lines.Line}, decide_handshake.specs.Server.{Answers, IsSwitch}}
@@ -12,8 +12,8 @@ use Rattle.gateway_messages.specs.{Requests.{IsForGateway, Rejects}, declared.ex
 use Rattle.gateway_messages.specs.declared.expectation.Expectation.TheVariants.{Answered, Forwarded}
 use Rattle.gateway_messages.specs.declared.{field_line.FieldLine.FieldLine, framing.Framing.Framing}
 use Rattle.gateway_messages.specs.declared.protocol.Protocol.TheVariants.{Http11}
-use Rattle.gateway_parts.specs.{Authorities.{IsAuthority, given_host}, Messages.protocol_of, Targets.Parts}
-use Rattle.gateway_parts.specs.Targets.{origin_form, target_of}
+use Rattle.gateway_exchange.specs.{Authorities.{IsAuthority, given_host}, Messages.protocol_of, Targets.Parts}
+use Rattle.gateway_exchange.specs.Targets.{origin_form, target_of}
 use Rattle.server_stream.specs.declared.event.StreamRequest.{StreamRequest}
 use Rattle.gateway_exchange.specs.declared.decision.{Outgoing.Outgoing, RequestDecision.RequestDecision}
 use Rattle.gateway_exchange.specs.declared.{decision.RequestDecision.TheVariants.{Answer, Send}, own.Own.Own}

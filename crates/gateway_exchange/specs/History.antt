@@ -5,7 +5,7 @@ use Rattle.{http_header.specs.{FieldValue.FieldValue, HeaderMap.Entries}, http1.
 use Rattle.http1.specs.declared.conn.{BodySize.{BodySize, TheVariants.Known}, Limits.Limits}
 use Rattle.{http1.specs.declared.error.WriteError.WriteError, http1_typed.specs.Parts.reason_of}
 use Rattle.gateway_messages.specs.{FieldLines.fields_of, Responses.IsForwardedResponse}
-use Rattle.{gateway_parts.specs.Messages.response_size, gateway_connection.specs.Exchanges.Request}
+use Rattle.{gateway_exchange.specs.Messages.response_size, gateway_connection.specs.Exchanges.Request}
 use Rattle.gateway_connection.specs.declared.event.OriginResponse.{OriginResponse}
 use Rattle.gateway_connection.specs.History as Origin
 use Rattle.gateway_connection.specs.Steps as OriginSteps
@@ -15,7 +15,8 @@ use Rattle.server_stream.specs.Steps as StreamSteps
 use Rattle.server_stream.specs.Exchanges.{Bare, Exchange, Final, Response, Begun, Switched}
 use Rattle.{server_stream.specs.declared.event.StreamRequest.StreamRequest, gateway_exchange.specs.Own.closing}
 use Rattle.gateway_exchange.specs.{Own.{own_fields, own_status}, Decisions.IsDecision, Passing.{IsSwitched, IsTrailers}}
-use Rattle.gateway_exchange.specs.Passing.{answered, with_conditions}
+use Rattle.gateway_exchange.specs.Passing.{answered, are_addable, head_lines, with_conditions}
+use Rattle.gateway_messages.specs.declared.response.ForwardedResponse.{ForwardedResponse}
 use Rattle.gateway_exchange.specs.declared.decision.{RequestDecision.TheVariants.Send, AskedRequest.AskedRequest}
 use Rattle.gateway_exchange.specs.declared.{connection.GatewayConnection.GatewayConnection, pass.Heard.Heard}
 use Rattle.gateway_exchange.specs.declared.{event.GatewayEvent.GatewayEvent, date.OwnDate.OwnDate, own.Own.Own}
@@ -23,7 +24,7 @@ use Rattle.gateway_exchange.specs.{declared.rules.{Peer.Peer, GatewayRules.Gatew
 use Rattle.gateway_exchange.specs.Steps.{ChangesClient, ChangesOrigin, Conditions, Connects, Dates, EndsGiving}
 use Rattle.gateway_exchange.specs.Steps.{FinishesClient, Gives, HandsOutOrigin, IsNew, Passes, RefusesGiving}
 use Rattle.gateway_exchange.specs.Steps.{ReceivesOrigin, RefusesInGiving, Says, Sends, Settles, TakesClient}
-use Rattle.gateway_exchange.specs.Steps.{TakesOrigin, TimesOut, is_origin_open, output_of}
+use Rattle.gateway_exchange.specs.Steps.{Adds, TakesOrigin, TimesOut, is_origin_open, output_of}
 use Rattle.gateway_exchange.specs.declared.own.Own.TheVariants as Because
 use Rattle.gateway_exchange.specs.declared.connection.Stage.TheVariants as At
 
@@ -39,12 +40,19 @@ pub record Traffic : Type 0 where
   pub received : List ℕ
   pub sent : List ℕ
 
--- what the caller passed in: who the client is, the rules of its calls, the heads of the responses that it gave, and
--- what went over each connection to an origin, of which the last one that was handed in is the first here
+-- field lines that the caller added to an origin's response while it waited
+pub record Addition : Type 0 where
+  pub response : OriginResponse
+  pub lines : List Header
+
+-- what the caller passed in: who the client is, the rules of its calls, the heads of the responses that it gave, what
+-- it added to others, and what went over each connection to an origin, of which the last one that was handed in is the
+-- first here
 pub record Uses : Type 0 where
   pub peer : Peer
   pub rules : List GatewayRules
   pub given : List GivenHead
+  pub added : List Addition
   pub traffic : List Traffic
 
 pub record Past : Type 0 where
@@ -54,13 +62,20 @@ pub record Past : Type 0 where
   pub uses : Uses
 
 abbrev pub no_past : Peer → Past
-no_past peer = record { received = []; sent = []; uses = record { peer = peer; rules = []; given = []; traffic = [] } }
+no_past peer = record {
+  received = [];
+  sent = [];
+  uses = record { peer = peer; rules = []; given = []; added = []; traffic = [] };
+}
 
 abbrev pub with_rules : GatewayRules → Uses → Uses
 with_rules rules uses = record uses { rules = rules ∷ uses.rules }
 
 abbrev pub with_given : GivenHead → Uses → Uses
 with_given head uses = record uses { given = head ∷ uses.given }
+
+abbrev pub with_added : Addition → Uses → Uses
+with_added addition uses = record uses { added = addition ∷ uses.added }
 
 abbrev pub with_traffic : Traffic → Uses → Uses
 with_traffic t uses = record uses { traffic = t ∷ uses.traffic }
@@ -145,6 +160,10 @@ pub data IsReached (limits : Limits) : GatewayConnection → Past → Type 0 whe
   NotBegun : (old new : GatewayConnection) (p : Past) (status : ℕ) (reason : List ℕ) (fields : List Header)
       (size : BodySize) (error : WriteError) → IsReached limits old p
       → RefusesGiving old status reason fields size error new → IsReached limits new p
+  Added : (old new : GatewayConnection) (p : Past) (h : Heard) (lines : List Header) → IsReached limits old p
+      → Adds h lines old new → IsReached limits new (record p {
+        uses = with_added (record { response = h.response; lines = lines }) p.uses;
+      })
   Passed : (old new : GatewayConnection) (p : Past) → IsReached limits old p → Passes old new → IsReached limits new p
   TimedOut : (old new : GatewayConnection) (p : Past) → IsReached limits old p → TimesOut old new
       → IsReached limits new p
@@ -200,16 +219,29 @@ WentOver t [] = ⊥
 WentOver t (first ∷ later) = IsFrontOf t first ⊎ WentOver t later
 
 -- what is forwarded of a response to this request, by rules that the caller passed in
-abbrev pub IsHeard : Uses → AskedRequest → Heard → Type 0
-IsHeard uses a h = (rules : GatewayRules) × IsIn rules uses.rules
-    × (date : ℕ) × IsForwardedResponse rules.gateway date (answered a h.response.status h.response) h.sent
+abbrev pub IsForwarded : Uses → AskedRequest → OriginResponse → ForwardedResponse → Type 0
+IsForwarded uses a response sent = (rules : GatewayRules) × IsIn rules uses.rules
+    × (date : ℕ) × IsForwardedResponse rules.gateway date (answered a response.status response) sent
 
--- the response has the head that is sent of this one, and this content; the head of the last response says so too
+-- the caller added these field lines to this response while it waited, or none; none frames it, is for one connection,
+-- or is of a name that the gateway writes itself
+abbrev pub AreAdded : Uses → OriginResponse → List Header → Type 0
+AreAdded uses response lines =
+    (lines ≡ [])
+    ⊎ (IsIn (record { response = response; lines = lines }) uses.added × (are_addable lines ≡ true))
+
+-- what is forwarded of a final response, and what the caller added to it
+abbrev pub IsHeard : Uses → AskedRequest → Heard → Type 0
+IsHeard uses a h =
+    IsForwarded uses a h.response h.sent × AreAdded uses h.response (fields_of h.added.items)
+
+-- The response has the head that is sent of this one, and this content: its fields are those that are forwarded, and
+-- then, once, those that the caller added. The head of the last response says so too.
 pub record HasHead (h : Heard) (content : List ℕ) (r : Response) : Type 0 where
   pub status : r.status ≡ h.response.status
   pub reason : r.reason ≡ h.response.reason
   pub is_last : Bool
-  pub headers : r.headers ≡ closing is_last (fields_of h.sent.fields.items)
+  pub headers : r.headers ≡ closing is_last (head_lines h)
   pub size : r.size ≡ response_size h.sent.content
   pub content_is : concat r.pieces ≡ content
 
@@ -230,7 +262,8 @@ EndsAs uses h (Some trailers) (Some sent) = (rules : GatewayRules)
 EndsAs uses h trailers sent = ⊥
 
 -- The response is forwarded: one of the connections to an origin that were handed in told it of this request. Its head
--- and its trailer fields are what is forwarded of the origin's, and its content is the origin's.
+-- and its trailer fields are what is forwarded of the origin's, with what the caller added to the head, and its content
+-- is the origin's.
 pub record IsPassedOn (limits : Limits) (uses : Uses) (head : StreamRequest) (r : Response) : Type 0 where
   pub asked : AskedRequest
   pub head_is : asked.head ≡ head
@@ -260,13 +293,14 @@ pub record IsInterimPassedOn (limits : Limits) (uses : Uses) (head : StreamReque
   pub asked : AskedRequest
   pub head_is : asked.head ≡ head
   pub decided : IsDecided uses asked
-  pub heard : Heard
-  pub forwarded : IsHeard uses asked heard
+  pub response : OriginResponse
+  pub sent : ForwardedResponse
+  pub forwarded : IsForwarded uses asked response sent
   pub puts : b ≡ record {
     minor = 1;
-    status = heard.response.status;
-    reason = heard.response.reason;
-    headers = fields_of heard.sent.fields.items;
+    status = response.status;
+    reason = response.reason;
+    headers = fields_of sent.fields.items;
   }
   pub origin : OriginConnection
   pub past : Origin.Past
@@ -275,7 +309,7 @@ pub record IsInterimPassedOn (limits : Limits) (uses : Uses) (head : StreamReque
   pub request : Request
   pub sends : IsFor asked request
   pub before : List OriginResponse
-  pub told : past.now ≡ Origin.Asked request (before ++ heard.response ∷ [])
+  pub told : past.now ≡ Origin.Asked request (before ++ response ∷ [])
 
 -- the 100 (Continue) that the gateway sends itself
 abbrev pub own_interim : Bare
@@ -345,10 +379,10 @@ pub record Served (limits : Limits) (uses : Uses) (p : Stream.Past) : Type 0 whe
 
 -- The theorem. The client's connection was reached by calls of its own, by which the same bytes were received and
 -- written: so what was written to the client, and then waits for it, is one response for each of its requests, in
--- order, literally and to its end, but for the last one, which may be cut off. Each of these responses is the
--- gateway's own, or has a head that the caller gave, or is what is forwarded of the response of an origin to that
--- request; an interim one is the gateway's 100 (Continue), or an origin's. The origin's connection was reached by calls
--- of its own too: so it was sent whole requests, and then maybe a first part of one.
+-- order, literally and to its end, but for the last one, which may be cut off. Each of these responses is the gateway's
+-- own, or has a head that the caller gave, or is what is forwarded of the response of an origin to that request, with
+-- what the caller added to its head; an interim one is the gateway's 100 (Continue), or an origin's. The origin's
+-- connection was reached by calls of its own too: so it was sent whole requests, and then maybe a first part of one.
 pub record Exchanged (limits : Limits) (m : GatewayConnection) (p : Past) : Type 0 where
   pub client : Stream.Past
   pub reached : Stream.IsReached limits m.client client

@@ -1,7 +1,7 @@
 -- The gateway's own responses (RFC 9110, sections 15.5 and 15.6).
-use Rattle.std.specs.Prelude.{◌≡◌, ◌⊎◌, ℕ, Bool, true, false, ◌||◌, List, [], ◌∷◌, ◌++◌, codes, if◌then◌else◌, Option}
+use Rattle.std.specs.Prelude.{◌⊎◌, ℕ, Bool, true, false, ◌||◌, List, [], ◌∷◌, ◌++◌, codes, if◌then◌else◌, Option}
 use Rattle.{std.specs.Prelude.{Some, None}, headers.specs.Date.fixdate, http1.specs.Conn.finish_refusal}
-use Rattle.http1.specs.{Fields.Header, Server.response_refusal, declared.conn.BodySize.{BodySize, TheVariants.Known}}
+use Rattle.http1.specs.{Fields.Header, Server.response_refusal, declared.conn.BodySize.{TheVariants.Known}}
 use Rattle.{http1.specs.declared.error.WriteError.WriteError, http1_typed.specs.Parts.reason_of}
 use Rattle.{gateway_messages.specs.Rejections.status_of, server_stream.specs.{Heads.rejection_status, Steps.Ends}}
 use Rattle.server_stream.specs.{Steps.{RefusesWrite, Responds}, declared.connection.StreamConnection.StreamConnection}

@@ -1,16 +1,18 @@
 -- Messages on their way from one connection to the other.
-use Rattle.std.specs.Prelude.{◌≡◌, ◌≢◌, ◌⊎◌, ⊤, ℕ, Bool, true, false, List, [], ◌∷◌, ◌++◌, Option, Some, None, codes}
-use Rattle.{std.specs.Prelude.{map, option_map, option_to_list}, http_header.specs.FieldValue.FieldValue}
-use Rattle.{http_header.specs.HeaderMap.Entries, headers.specs.{LineMap.{Field, LineMap, lines_at}, Lines.Line}}
-use Rattle.http1.specs.{Client.request_refusal, Conn.finish_refusal, Fields.Header}
+use Rattle.std.specs.Prelude.{◌≡◌, ◌≢◌, ◌⊎◌, ⊤, ℕ, Bool, List, [], ◌∷◌, ◌++◌, Option, Some, codes}
+use Rattle.std.specs.{Prelude.{◌||◌, bytes_eq, not, option_map, option_to_list}, List.{list_all, list_any}}
+use Rattle.http_header.specs.FieldValue.{FieldValue}
+use Rattle.{http_header.specs.HeaderMap.Entries, headers.specs.{LineMap.{Field, LineMap, lines_at}}}
+use Rattle.http1.specs.{Conn.finish_refusal, Fields.Header}
 use Rattle.http1.specs.declared.error.WriteError.{WriteError}
 use Rattle.http1.specs.declared.error.WriteError.TheVariants as Write
 use Rattle.http1.specs.Server.{informational_refusal, response_refusal, upgrade_refusal}
 use Rattle.decide_handshake.specs.{Client.IsOpened}
-use Rattle.gateway_messages.specs.{FieldLines.{fields_of, lines_under}, Trailers.ForwardsTrailers}
+use Rattle.gateway_messages.specs.{FieldLines.{fields_of, lines_under}, Forwarding.own_names}
+use Rattle.gateway_messages.specs.{HopByHop.hop_by_hop_fields, Trailers.ForwardsTrailers}
 use Rattle.gateway_messages.specs.Responses as Answers
 use Rattle.gateway_messages.specs.Responses.{IsDiscarded, IsForwardedResponse, RejectsResponse}
-use Rattle.gateway_messages.specs.declared.{field_line.FieldLine.FieldLine, framing.Framing.Framing}
+use Rattle.gateway_messages.specs.declared.{framing.Framing.Framing}
 use Rattle.gateway_messages.specs.declared.{gateway.Gateway.Gateway, response.ForwardedResponse.ForwardedResponse}
 use Rattle.gateway_hops.{specs.Connections.connection_fields, specs.Replaced.replaced_by}
 use Rattle.gateway_connection.specs.declared.{event.OriginResponse.OriginResponse}
@@ -18,7 +20,7 @@ use Rattle.gateway_connection.specs.declared.{origin.OriginConnection.OriginConn
 use Rattle.gateway_connection.specs.Steps as Origin
 use Rattle.server_stream.specs.Steps as Stream
 use Rattle.server_stream.specs.declared.connection.StreamConnection.{StreamConnection}
-use Rattle.gateway_parts.specs.Messages.{protocol_of, request_size, response_size}
+use Rattle.gateway_exchange.specs.Messages.{protocol_of, request_size, response_size}
 use Rattle.gateway_exchange.specs.{Decisions.offering, Own.closing, declared.decision.AskedRequest.AskedRequest}
 use Rattle.gateway_exchange.specs.declared.{own.Own.Own, pass.Heard.Heard}
 use Rattle.gateway_exchange.specs.declared.own.Own.TheVariants as Because
@@ -77,16 +79,29 @@ RefusesInterim response sent old error new =
     ⊎ Stream.RefusesWrite (informational_refusal old.server response.status response.reason
     (fields_of sent.fields.items)) old error new
 
+-- A caller may add a field of this name to a response: the gateway writes none of that name itself, and it neither
+-- frames the message nor is for one connection (RFC 9110, sections 7.6.1 and 8.6).
+abbrev pub is_addable : List ℕ → Bool
+is_addable name = not (list_any (bytes_eq name) own_names || list_any (bytes_eq name) hop_by_hop_fields)
+
+abbrev pub are_addable : List Header → Bool
+are_addable lines = list_all (λ line. is_addable line.0) lines
+
+-- the fields that are forwarded of it, and then those that the caller added
+abbrev pub head_lines : Heard → List Header
+head_lines h = fields_of h.sent.fields.items ++ fields_of h.added.items
+
 -- the head of the final response is put to the client; that of the last says so
 abbrev pub PutsResponse : Bool → Heard → StreamConnection → StreamConnection → Type 0
-PutsResponse is_last h old new = Stream.Responds old h.response.status h.response.reason
-    (closing is_last (fields_of h.sent.fields.items)) (response_size h.sent.content) new
+PutsResponse is_last h old new =
+    Stream.Responds old h.response.status h.response.reason (closing is_last (head_lines h))
+    (response_size h.sent.content) new
 
 abbrev pub RefusesResponse : Bool → Heard → StreamConnection → WriteError → StreamConnection → Type 0
 RefusesResponse is_last h old error new =
     ((new ≡ old) × (error ≡ Write.OutOfMemory))
     ⊎ Stream.RefusesWrite (response_refusal old.server h.response.status h.response.reason
-    (response_size h.sent.content) (closing is_last (fields_of h.sent.fields.items))) old error new
+    (response_size h.sent.content) (closing is_last (head_lines h))) old error new
 
 -- the end of the response is put to the client
 abbrev pub EndsResponse : Gateway → Heard → Entries FieldValue → StreamConnection → StreamConnection → Type 0

@@ -1,11 +1,12 @@
 -- What each call does.
-use Rattle.std.specs.Prelude.{◌≡◌, ◌≢◌, ◌⊎◌, ⊤, ℕ, ◌+◌, ◌<◌, ◌≤◌, Bool, true, false, ◌&&◌, ◌||◌, not, List, [], ◌∷◌}
-use Rattle.std.specs.Prelude.{length, Option, Some, None, codes, if◌then◌else◌, min, option_map}
+use Rattle.std.specs.Prelude.{◌≡◌, ◌≢◌, ◌⊎◌, ⊤, ℕ, ◌<◌, Bool, true, false, ◌&&◌, ◌||◌, not, List, [], ◌∷◌}
+use Rattle.std.specs.Prelude.{length, Option, Some, None, codes, min, option_map}
+use Rattle.std.specs.Global.{Vec}
 use Rattle.{http_header.specs.{FieldValue.FieldValue, HeaderMap.Entries}, http1.specs.Conn.data_refusal}
 use Rattle.http1.specs.{Conn.finish_refusal, Fields.Header, Server.{informational_refusal, response_refusal}}
 use Rattle.http1.specs.{Server.upgrade_refusal, declared.conn.{BodySize.BodySize, Limits.Limits}}
 use Rattle.{http1.specs.declared.error.WriteError.WriteError, gateway_messages.specs.FieldLines.fields_of}
-use Rattle.gateway_messages.specs.Responses.{IsDiscarded, IsForwardableResponse, IsForwardedResponse, RejectsResponse}
+use Rattle.gateway_messages.specs.Responses.{IsDiscarded, IsForwardedResponse, RejectsResponse}
 use Rattle.gateway_messages.specs.declared.expectation.Expectation.{Expectation, TheVariants.Answered}
 use Rattle.gateway_messages.specs.declared.{field_line.FieldLine.FieldLine, rejection.Rejection.Rejection}
 use Rattle.gateway_messages.specs.declared.response.ContentFraming.{ContentFraming, TheVariants.Absent}
@@ -22,9 +23,10 @@ use Rattle.gateway_exchange.specs.{Decisions.IsDecision, Own.{PutsOwn, RefusesOw
 use Rattle.gateway_exchange.specs.Passing.{EndsResponse, IsSwitched, IsUnswitched, PutsInterim, PutsRequest}
 use Rattle.gateway_exchange.specs.Passing.{PutsResponse, PutsSwitch, RefusesInterim, RefusesRequest, RefusesRequestEnd}
 use Rattle.gateway_exchange.specs.Passing.{RefusesResponse, RefusesResponseEnd, RefusesSwitch, answered}
-use Rattle.gateway_exchange.specs.{Passing.with_conditions, declared.connection.GatewayConnection.GatewayConnection}
+use Rattle.gateway_exchange.specs.{Passing.{are_addable, with_conditions}}
+use Rattle.gateway_exchange.specs.declared.connection.GatewayConnection.{GatewayConnection}
 use Rattle.gateway_exchange.specs.declared.{connection.Stage.Stage, decision.AskedRequest.AskedRequest}
-use Rattle.gateway_exchange.specs.declared.decision.{Outgoing.Outgoing, RequestDecision.RequestDecision}
+use Rattle.gateway_exchange.specs.declared.decision.{RequestDecision.RequestDecision}
 use Rattle.gateway_exchange.specs.declared.event.{GatewayEvent.GatewayEvent, ExchangePhase.ExchangePhase, Wants.Wants}
 use Rattle.gateway_exchange.specs.declared.{date.OwnDate.OwnDate, own.Own.Own, pass.Heard.Heard, rules.Peer.Peer}
 use Rattle.gateway_exchange.specs.declared.{rules.GatewayRules.GatewayRules, tunnel.TheConstants.MOST_WAITING}
@@ -323,6 +325,18 @@ abbrev pub TellsHead : Bool → GatewayConnection → Heard → GatewayConnectio
 TellsHead true old h new = new ≡ record old { stage = At.Judging; heard = Some h }
 TellsHead false old h new = ShowsHead old h new
 
+-- this response waits, and has these field lines after those that are forwarded, in place of any that were added before
+abbrev pub Adds : Heard → List Header → GatewayConnection → GatewayConnection → Type 0
+Adds h lines old new = (old.stage ≡ At.Judging) × (old.heard ≡ Some h) × (are_addable lines ≡ true)
+    × (added : Vec FieldLine) × (fields_of added.items ≡ lines)
+    × (new ≡ record old { heard = Some (record h { added = added }) })
+
+-- nothing is added: none waits, or one of them is a field that no caller adds
+abbrev pub RefusesAdding : List Header → GatewayConnection → WriteError → GatewayConnection → Type 0
+RefusesAdding lines old error new = (new ≡ old)
+    × (((error ≡ Write.State) × ((old.stage ≢ At.Judging) ⊎ (old.heard ≡ None)))
+    ⊎ ((error ≡ Write.InvalidHeader) × (are_addable lines ≡ false)))
+
 -- the response that waits is put
 abbrev pub Passes : GatewayConnection → GatewayConnection → Type 0
 Passes old new =
@@ -334,7 +348,8 @@ abbrev pub PassesHead : GatewayRules → ℕ → GatewayConnection → AskedRequ
 PassesHead rules date old a response new =
     ((sent : ForwardedResponse)
     × IsForwardedResponse rules.gateway date (answered a response.status response) sent
-    × TellsHead old.watches old (record { response = response; sent = sent }) new)
+    × (nothing : Vec FieldLine) × (nothing.items ≡ [])
+    × TellsHead old.watches old (record { response = response; sent = sent; added = nothing }) new)
     ⊎ (IsDiscarded rules.gateway (answered a response.status response) × (new ≡ old))
     ⊎ ((why : Rejection) × RejectsResponse rules.gateway (answered a response.status response) why
     × Fails old (Because.Response why) new)

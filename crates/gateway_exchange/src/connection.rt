@@ -7,7 +7,7 @@ ghost use Rattle.gateway_messages.specs.FieldLines.{fields_of};
 ghost use Rattle.gateway_connection.specs.Steps as Origin;
 ghost use Rattle.server_stream.specs.Steps as Stream;
 ghost use Rattle.gateway_exchange.specs.{History.{Exchanged, IsReached, Past}, Tunnels.{Begins, ended_of, input_of}};
-ghost use Rattle.gateway_exchange.specs.Steps.{AsksAgain, Conditions, Connects, ConnectsNow, Dates, EndsGiving};
+ghost use Rattle.gateway_exchange.specs.Steps.{Adds, AsksAgain, Conditions, Connects, ConnectsNow, Dates, EndsGiving};
 ghost use Rattle.gateway_exchange.specs.Steps.{RefusesGiving, RefusesInGiving, ShowsHead, TakesOrigin, asks, is_absent};
 ghost use Rattle.gateway_exchange.specs.Steps.{is_absent_content, is_answered, idle_phase, is_origin_open, is_over};
 ghost use Rattle.gateway_exchange.specs.Steps.{is_passing, waiting_phase, wants_of, Answers, AwaitsRequest, BeginsAt};
@@ -18,15 +18,15 @@ ghost use Rattle.gateway_exchange.specs.Steps.{PassesEnd, PassesHead, PassesInte
 ghost use Rattle.gateway_exchange.specs.Steps.{PutsContent, PutsHead, PutsRequestEnd, ReceivesClient, ReceivesOrigin};
 ghost use Rattle.gateway_exchange.specs.Steps.{RefusesBeginAt, RefusesContent, RefusesEnd, Says, SaysIn, Sends};
 ghost use Rattle.gateway_exchange.specs.Steps.{Settles, Steps, SwitchesTo, TellsHead, TimesOut, Transfers, output_of};
-ghost use Rattle.gateway_exchange.specs.Steps.{phase_of};
+ghost use Rattle.gateway_exchange.specs.Steps.{RefusesAdding, phase_of};
 
 use crate::date::OwnDate;
 use crate::decision::{AskedRequest, RequestDecision, decide};
 use crate::event::{ExchangePhase, GatewayEvent, Wants};
 use crate::own::{Own, close_if, put_own};
 use crate::pass::{
-    Heard, begin_request, end_request, end_response, judge, put_interim, put_response, put_switch,
-    switched_fields, with_conditions,
+    Heard, are_addable, begin_request, end_request, end_response, judge, put_interim, put_response,
+    put_switch, switched_fields, with_conditions,
 };
 use crate::rules::{GatewayRules, Peer};
 use crate::tunnel::{MOST_WAITING, Tunnel};
@@ -805,7 +805,14 @@ impl GatewayConnection {
             &response,
             now,
         ) {
-            Ok(ResponseOutcome::Forward(sent)) => self.tell_head(Heard { response, sent }),
+            Ok(ResponseOutcome::Forward(sent)) => {
+                let added = Vec::new(self.alloc);
+                self.tell_head(Heard {
+                    response,
+                    sent,
+                    added,
+                })
+            }
             Ok(ResponseOutcome::Discard) => {}
             Ok(ResponseOutcome::Reject(rejection)) => self.fail(Own::Response(rejection)),
             Err(_) => self.fail(Own::OutOfMemory),
@@ -851,6 +858,29 @@ impl GatewayConnection {
             Some(heard) => Some(&heard.response),
             None => None,
         }
+    }
+
+    /// Adds these field lines to the origin's response that waits, after those that are forwarded, and in place of any
+    /// that were added before.
+    ///
+    /// Fails with `State` if none waits, and with `InvalidHeader` if one of them is a field that frames the message, is
+    /// for one connection, or is of a name that the gateway writes itself. Then nothing changes.
+    pub fn add_fields(&mut self, fields: Vec<FieldLine>) -> Result<(), WriteError>
+        ensures { MatchResult result (λ _. (heard : Heard) × Adds heard (fields_of fields.items) self.old self.new)
+            (λ error. RefusesAdding (fields_of fields.items) self.old error self.new) }
+    {
+        let waits = self.stage == Stage::Judging;
+        if !waits {
+            return Err(WriteError::State);
+        }
+        if !are_addable(&fields) {
+            return Err(WriteError::InvalidHeader);
+        }
+        let Some(heard) = &mut self.heard else {
+            return Err(WriteError::State);
+        };
+        heard.added = fields;
+        Ok(())
     }
 
     /// Forwards the origin's response that waits.

@@ -5,13 +5,15 @@ ghost use Rattle.gateway_exchange.specs.Decisions.{IsDecision, IsDecisionFor, Is
 ghost use Rattle.gateway_exchange.specs.Decisions.{OpensWebsocket, asked, is_host_line, next_hop, takes_over};
 ghost use Rattle.gateway_exchange.specs.Decisions.{value_or_none, version_of};
 
+use crate::authority::{given_authority, host_value};
+use crate::message::protocol_of;
 use crate::own::Own;
 use crate::rules::{GatewayRules, Peer, next_connection};
+use crate::target::{origin_form, target_of};
 use bytes::Bytes;
 use decide_handshake::{HandshakeAnswer, Origins, accept};
 use gateway_hops::{HopOutcome, SentRequest, replace_fields, send_request};
 use gateway_messages::{Expectation, FieldLine, Framing, Protocol, ReceivedRequest};
-use gateway_parts::{given_authority, host_value, origin_form, protocol_of, target_of};
 use headers::HeaderValue;
 use http::Version;
 use server_stream::StreamRequest;

@@ -3,13 +3,16 @@
 //! out (RFC 9110, section 7; RFC 9112).
 #![tactic(auto)]
 
+mod authority;
 mod connection;
 mod date;
 mod decision;
 mod event;
+mod message;
 mod own;
 mod pass;
 mod rules;
+mod target;
 mod tunnel;
 
 pub use crate::connection::GatewayConnection;

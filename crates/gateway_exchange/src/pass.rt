@@ -1,15 +1,19 @@
 //! Messages on their way from one connection to the other.
 ghost use Rattle.std.specs.Prelude.{◌≡◌, IfErr, IfOk, MatchResult, option_map, option_to_list};
 ghost use Rattle.headers.{specs.LineMap.field_of};
-ghost use Rattle.http1.specs.{Conn.finish_refusal};
+ghost use Rattle.http1.specs.{Conn.finish_refusal, Head.pairs};
 ghost use Rattle.gateway_messages.specs.{FieldLines.fields_of, Responses.{IsForwardableResponse, IsResponseOutcome}};
 ghost use Rattle.gateway_exchange.specs.Passing.{EndsRequest, EndsResponse, IsSwitched, IsUnswitched, PutsInterim};
 ghost use Rattle.gateway_exchange.specs.Passing.{PutsResponse, PutsSwitch, RefusesInterim, RefusesRequestEnd};
 ghost use Rattle.gateway_exchange.specs.Passing.{RefusesResponse, RefusesResponseEnd, RefusesSwitch, answered};
 ghost use Rattle.gateway_exchange.specs.Passing.{switching_fields, with_conditions, PutsRequest, RefusesRequest};
+ghost use Rattle.gateway_exchange.specs.Passing.{are_addable, is_addable, head_lines};
+ghost use Rattle.gateway_messages.specs.{Forwarding.own_names, HopByHop.hop_by_hop_fields};
+ghost use Rattle.std.specs.{Prelude.bytes_eq, List.list_any};
 ghost use Rattle.gateway_exchange.specs.Steps.{Begins, RefusesBegin};
 
 use crate::decision::AskedRequest;
+use crate::message::{header_list, protocol_of, request_size, response_size};
 use crate::own::{Own, close_if};
 use crate::rules::next_connection;
 use decide_handshake::{Checked, check};
@@ -19,11 +23,10 @@ use gateway_messages::{
     FieldLine, ForwardedResponse, Gateway, MessageHead, Rejection, ResponseHead, ResponseOutcome,
     forward_response, forward_trailers,
 };
-use gateway_parts::{header_list, protocol_of, request_size, response_size};
 use headers::{Date, Encoded, HeaderMap, HeaderName, HeaderValue};
 use http::StatusCode;
 use http_header::{IF_MODIFIED_SINCE, IF_NONE_MATCH};
-use http1::WriteError;
+use http1::{Header, WriteError};
 use server_stream::StreamConnection;
 use std::alloc::{AllocError, Global};
 
@@ -34,6 +37,8 @@ pub(crate) struct Heard {
     pub(crate) response: OriginResponse,
     /// Its head as sent.
     pub(crate) sent: ForwardedResponse,
+    /// The field lines that the caller adds to that.
+    pub(crate) added: Vec<FieldLine>,
 }
 
 // Puts the head of the request to the origin.
@@ -130,6 +135,50 @@ pub(crate) fn put_interim(
     client.interim(response.status, response.reason.as_slice(), &headers)
 }
 
+// Whether the gateway writes fields of this name.
+fn is_own(name: &str) -> bool
+    ensures { result ≡ list_any (bytes_eq name.now) own_names }
+{
+    name == "via"
+        || name == "host"
+        || name == "date"
+        || name == "max-forwards"
+        || name == "content-length"
+        || name == "transfer-encoding"
+}
+
+fn is_hop_by_hop(name: &str) -> bool
+    ensures { result ≡ list_any (bytes_eq name.now) hop_by_hop_fields }
+{
+    name == "connection"
+        || name == "keep-alive"
+        || name == "proxy-connection"
+        || name == "te"
+        || name == "transfer-encoding"
+        || name == "upgrade"
+}
+
+fn is_addable(name: &str) -> bool
+    ensures { result ≡ is_addable name.now }
+{
+    !(is_own(name) || is_hop_by_hop(name))
+}
+
+pub(crate) fn are_addable(fields: &[FieldLine]) -> bool
+    ensures { result ≡ are_addable (fields_of fields.now) }
+{
+    fields.iter().all(|field| is_addable(field.name.as_str()))
+}
+
+// The field lines of the head of the final response.
+fn head_lines<'a>(alloc: Global, heard: &'a Heard) -> Result<Vec<Header<'a>>, AllocError>
+    ensures { IfOk result (λ list. pairs list.items ≡ head_lines heard.now) }
+{
+    let mut list = header_list(alloc, &heard.sent.fields)?;
+    list.extend_from_slice(&header_list(alloc, &heard.added)?)?;
+    Ok(list)
+}
+
 // Puts the head of the final response to the client.
 pub(crate) fn put_response(
     alloc: Global,
@@ -140,7 +189,7 @@ pub(crate) fn put_response(
     ensures { MatchResult result (λ _. PutsResponse is_last heard.now client.old client.new)
         (λ error. RefusesResponse is_last heard.now client.old error client.new) }
 {
-    let mut headers = header_list(alloc, &heard.sent.fields)?;
+    let mut headers = head_lines(alloc, heard)?;
     close_if(is_last, &mut headers)?;
     client.respond(
         heard.response.status,

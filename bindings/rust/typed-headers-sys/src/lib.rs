@@ -363,6 +363,35 @@ pub struct Gate {
     pub is_open: bool,
 }
 
+/// A gateway's connections to origins. Zero bytes are a closed one.
+#[repr(C)]
+#[derive(Debug)]
+pub struct GatePool {
+    pub place: *mut core::ffi::c_void,
+    pub is_open: bool,
+}
+
+/// The rules of such a pool.
+#[repr(C)]
+#[derive(Clone, Copy, Debug)]
+pub struct GatePoolOptions {
+    pub origins: usize,
+    pub failures: u64,
+    pub pause: u64,
+    pub most: u64,
+    pub idle: u64,
+    pub hashes: bool,
+}
+
+/// Where a request goes out.
+#[repr(C)]
+#[derive(Clone, Copy, Debug, Default)]
+pub struct GateLease {
+    pub connection: u64,
+    pub origin: usize,
+    pub kind: u8,
+}
+
 /// A connection to an origin by itself. Zero bytes are a closed one.
 #[repr(C)]
 #[derive(Debug)]
@@ -1149,6 +1178,14 @@ extern "C" {
     ) -> u8;
     pub fn typed_headers_pass_failed(cache: *mut Cache, pass: *mut Pass, now: u64, facts: *mut PassFacts) -> u8;
     pub fn typed_headers_pass_fields(pass: *const Pass, room: *mut u8, room_length: usize, written: *mut usize) -> u8;
+    pub fn typed_headers_pass_status(
+        pass: *const Pass,
+        name: *const u8,
+        name_length: usize,
+        room: *mut u8,
+        room_length: usize,
+        written: *mut usize,
+    ) -> u8;
     pub fn typed_headers_pass_validation(
         pass: *const Pass,
         room: *mut u8,
@@ -1268,6 +1305,7 @@ extern "C" {
         room_length: usize,
         written: *mut usize,
     ) -> u8;
+    pub fn typed_headers_gate_add(gate: *mut Gate, section: *const u8, section_length: usize, keys: *const Keys) -> u8;
     pub fn typed_headers_gate_pass(gate: *mut Gate) -> u8;
     pub fn typed_headers_gate_piece(gate: *mut Gate, room: *mut u8, room_length: usize, written: *mut usize) -> u8;
     pub fn typed_headers_gate_take(gate: *mut Gate, origin: *mut GateOrigin) -> u8;
@@ -1282,4 +1320,19 @@ extern "C" {
         section: *const u8,
         section_length: usize,
     ) -> u8;
+    pub fn typed_headers_gate_pool_free(pool: *mut GatePool) -> u8;
+    pub fn typed_headers_gate_pool_new(pool: *mut GatePool, options: *const GatePoolOptions) -> u8;
+    pub fn typed_headers_gate_pool_lease(
+        pool: *mut GatePool,
+        request: u64,
+        now: u64,
+        key: u64,
+        lease: *mut GateLease,
+    ) -> u8;
+    pub fn typed_headers_gate_pool_opened(pool: *mut GatePool, connection: u64) -> u8;
+    pub fn typed_headers_gate_pool_failed(pool: *mut GatePool, connection: u64, now: u64) -> u8;
+    pub fn typed_headers_gate_pool_ended(pool: *mut GatePool, connection: u64, again: *mut u8) -> u8;
+    pub fn typed_headers_gate_pool_release(pool: *mut GatePool, connection: u64, kept: *mut u8) -> u8;
+    pub fn typed_headers_gate_pool_gone(pool: *mut GatePool, connection: u64) -> u8;
+    pub fn typed_headers_gate_pool_finished(pool: *mut GatePool, request: u64) -> u8;
 }

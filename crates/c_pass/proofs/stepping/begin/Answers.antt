@@ -4,6 +4,7 @@ use Rattle.{std.specs.declared.alloc.AllocError.AllocError, cache_store.specs.Hi
 use Rattle.cache_pass.specs.{Effects.{Does, kept_of, settings_of}, Passes.{IsSameRequest, key_of}, Queue.Enters}
 use Rattle.cache_pass.specs.{Steps.HasBegun, declared.{cache.Cache.Cache, pass.Pass.Pass, replying.First.First}}
 use Rattle.{c_parts.specs.declared.status.Failure.TheVariants.Memory, c_pass.specs.{Steps.Begins, Waiting.IsAhead}}
+use Rattle.c_pass.proofs.StatusLemmas.{standing_of}
 use Rattle.c_pass.proofs.stepping.begin.Goals as goal
 
 pub returns-in-Some : goal.returns-in-Some
@@ -28,7 +29,9 @@ returns-in-Some c = record {
       silent = c.stepped_at-stepped.ensures.silent;
       content = c.stepped_at-stepped.ensures.content;
       queue = refl;
-      beside = record { keys = refl; most = refl };
+      standing = standing_of _ _ _ _ _ _ _ _ _ _ refl refl (sym c.stepped_at-stepped.ensures.standing)
+          c.first_standing-found.ensures;
+      beside = record { keys = refl; most = refl; guess = refl };
     },
     c.waiting.ensures,
   );
@@ -58,7 +61,10 @@ returns c =
           tells = search rules;
           content = search rules;
           place = search rules;
-          beside = record { keys = search rules; most = search rules };
+          standing = standing_of _ _ _ _ _ _ _ _ _ _ (sym c.in_ok-facts.ensures.cache) (sym made)
+              (sym (c.in_ok-facts.ensures.standing ∙ c.stepped_at-stepped-2.ensures.standing))
+              c.first_standing-found.ensures;
+          beside = record { keys = search rules; most = search rules; guess = search rules };
         },
       );
     }
@@ -92,7 +98,7 @@ returns-in_err-facts c =
                     (ap key_of made ∙ ap string_bytes begun.same.key ∙ key) unplaced.1,
               )
             ];
-            beside = record { keys = search rules; most = search rules };
+            beside = record { keys = search rules; most = search rules; guess = search rules };
           }
           ),
     ))

@@ -1,4 +1,4 @@
-use Rattle.std.proofs.Common.{rules, ◌≡◌, ℕ, Bool, true, false, List, [], Option, Result, Ok, Err, inl, inr, refl}
+use Rattle.std.proofs.Common.{rules, ◌≡◌, ℕ, Bool, true, false, List, [], Option, Result, Err, inl, inr, refl}
 use Rattle.std.{proofs.{Common.{subst, sym}, lemmas.Result.err_from_is_err_and}, specs.Prelude.{◌&&◌, is_some}}
 use Rattle.std.specs.{Prelude.unwrap_or, declared.alloc.AllocError.AllocError}
 use Rattle.cache_rules.specs.declared.storing.Reception.{Reception, TheVariants.{Complete, Incomplete}}
@@ -55,7 +55,8 @@ returns-in_err-number-in-Ok c =
         place = search rules;
         shown = refl;
         text = refl;
-        beside = record { keys = refl; most = refl };
+        standing = refl;
+        beside = record { keys = refl; most = refl; guess = refl };
       },
     ))
 
@@ -71,5 +72,6 @@ returns c = record {
   place = search rules;
   shown = search rules;
   text = search rules;
-  beside = record { keys = search rules; most = search rules };
+  standing = search rules;
+  beside = record { keys = search rules; most = search rules; guess = search rules };
 }

@@ -1,10 +1,11 @@
-use Rattle.std.proofs.Common.{rules, ◌≡◌, inl, inr, refl, Some}
+use Rattle.std.proofs.Common.{rules, ◌≡◌, [], inl, inr, refl, Some}
 use Rattle.gateway_exchange.proofs.connection.GatewayConnection.hear_head.Goals as goal
 
 pub returns-in-Ok-Forward : goal.returns-in-Ok-Forward
 returns-in-Ok-Forward c = let asked : c.args.self.now.asked ≡ Some c.in-Some.asked = search rules in
     let sent = rw c.in-Ok-Forward.field-0-is at c.in-Ok-Forward.ensures in
-    inl (c.in-Some.asked, asked, inl (c.in-Ok-Forward.sent, sent, c.tell_head.ensures))
+    let empty : c.new-added.result.items ≡ [] = search rules in
+    inl (c.in-Some.asked, asked, inl (c.in-Ok-Forward.sent, sent, c.new-added.result, empty, c.tell_head.ensures))
 
 pub returns-in-Ok-Discard : goal.returns-in-Ok-Discard
 returns-in-Ok-Discard c = let asked : c.args.self.now.asked ≡ Some c.in-Some.asked = search rules in

@@ -1,5 +1,5 @@
-use Rattle.{std.proofs.Common.{rules, ◌≡◌, inl, subst, Option, Some, None}, gateway_exchange.specs.Steps.ShowsHead}
-use Rattle.gateway_exchange.specs.declared.{connection.GatewayConnection.GatewayConnection, pass.Heard.Heard}
+use Rattle.{std.proofs.Common.{rules, ◌≡◌, inl, subst, Option, Some}, gateway_exchange.specs.Steps.ShowsHead}
+use Rattle.gateway_exchange.specs.declared.{pass.Heard.Heard}
 use Rattle.gateway_exchange.specs.declared.connection.Stage.TheVariants as At
 use Rattle.gateway_exchange.proofs.connection.GatewayConnection.pass.Goals as goal
 

@@ -1,0 +1,6 @@
+mod Choices
+mod Kept
+mod Limits
+mod Lists
+mod Requests
+mod Origins

@@ -1,0 +1,3 @@
+pub mod Choices
+pub mod Histories
+pub mod Pools
