@@ -54,6 +54,7 @@ lost_in request now (held.Cache shared) (held.Gate gate) stepped facts is = is
 lost_in request now (held.Cache shared) (held.Tunnel tunnel) stepped facts is = is
 lost_in request now (held.Cache shared) (held.GateRules rules) stepped facts is = is
 lost_in request now (held.Cache shared) (held.GateOrigin origin) stepped facts is = is
+lost_in request now (held.Cache shared) (held.GatePool pool) stepped facts is = is
 lost_in request now (held.Section map) new stepped facts is = absurd (cc is.0)
 lost_in request now (held.Policy policy) new stepped facts is = absurd (cc is.0)
 lost_in request now (held.Resource resource) new stepped facts is = absurd (cc is.0)
@@ -64,6 +65,7 @@ lost_in request now (held.Gate gate) new stepped facts is = absurd (cc is.0)
 lost_in request now (held.Tunnel tunnel) new stepped facts is = absurd (cc is.0)
 lost_in request now (held.GateRules rules) new stepped facts is = absurd (cc is.0)
 lost_in request now (held.GateOrigin origin) new stepped facts is = absurd (cc is.0)
+lost_in request now (held.GatePool pool) new stepped facts is = absurd (cc is.0)
 
 -- through the handles
 pub lost_through : (request : CacheRequest) (now : ℕ) (old new before after : Option Held) (had has : Held)

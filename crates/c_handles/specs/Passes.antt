@@ -3,7 +3,8 @@ use Rattle.std.specs.{Prelude.{◌≡◌, ℕ, List, Option, Some, None, Result,
 use Rattle.{c_parts.specs.declared.status.Failure.{Failure, TheVariants.{Refused, Absent}}, c_pass.specs.Steps.Copies}
 use Rattle.c_pass.specs.{Steps.{FailsBegin, IsBegun}, declared.held.{Shared.Shared, Stepped.Stepped}}
 use Rattle.c_pass.specs.declared.{reading.CacheRequest.CacheRequest, telling.PassFacts.PassFacts}
-use Rattle.{c_pass.specs.Validating.ShowsValidation, c_handles.specs.declared.held.Held.Held}
+use Rattle.c_pass.specs.{Status.IsStatusLine, Validating.ShowsValidation}
+use Rattle.c_handles.specs.declared.held.Held.{Held}
 use Rattle.c_handles.specs.declared.held.Held.TheVariants as held
 
 -- a handle is made with a cache of which P holds

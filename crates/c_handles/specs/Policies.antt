@@ -1,5 +1,5 @@
 -- A policy for requests from other origins that was made, and what it answers.
-use Rattle.std.specs.Prelude.{◌≡◌, ◌⊎◌, ℕ, List, Option, Some, None, Result, Ok, Err}
+use Rattle.std.specs.Prelude.{◌≡◌, ◌⊎◌, Option, Some, None, Result, Ok, Err}
 use Rattle.http_header.specs.{FieldValue.FieldValue, HeaderMap.Entries, Token.IsToken}
 use Rattle.{headers_section.specs.Section.Holds, decide_cors.specs.Policy.Policy, c_parts.specs.SectionMap.IsMapOf}
 use Rattle.c_parts.specs.declared.status.Failure.{Failure, TheVariants.{Memory, Absent}}

@@ -36,10 +36,13 @@ fn resume_in(
 ) -> Result<PassFacts, Failure>
     ensures { OnBoth (Resumes now) (Some cache.old) (Some cache.new) (Some pass.old) (Some pass.new) result }
 {
-    match (cache, pass) {
-        (Held::Cache(shared), Held::Pass(stepped)) => c_pass::resume(alloc, shared, stepped, now),
-        _ => Err(Failure::Absent),
-    }
+    let Held::Cache(shared) = cache else {
+        return Err(Failure::Absent);
+    };
+    let Held::Pass(stepped) = pass else {
+        return Err(Failure::Absent);
+    };
+    c_pass::resume(alloc, shared, stepped, now)
 }
 
 fn came_in(
@@ -54,12 +57,13 @@ fn came_in(
         (Some cache.old) (Some cache.new)
         (Some pass.old) (Some pass.new) result }
 {
-    match (cache, pass) {
-        (Held::Cache(shared), Held::Pass(stepped)) => {
-            c_pass::came(alloc, shared, stepped, status, section, now)
-        }
-        _ => Err(Failure::Absent),
-    }
+    let Held::Cache(shared) = cache else {
+        return Err(Failure::Absent);
+    };
+    let Held::Pass(stepped) = pass else {
+        return Err(Failure::Absent);
+    };
+    c_pass::came(alloc, shared, stepped, status, section, now)
 }
 
 fn failed_in(
@@ -70,10 +74,13 @@ fn failed_in(
 ) -> Result<PassFacts, Failure>
     ensures { OnBoth (Fails now) (Some cache.old) (Some cache.new) (Some pass.old) (Some pass.new) result }
 {
-    match (cache, pass) {
-        (Held::Cache(shared), Held::Pass(stepped)) => c_pass::failed(alloc, shared, stepped, now),
-        _ => Err(Failure::Absent),
-    }
+    let Held::Cache(shared) = cache else {
+        return Err(Failure::Absent);
+    };
+    let Held::Pass(stepped) = pass else {
+        return Err(Failure::Absent);
+    };
+    c_pass::failed(alloc, shared, stepped, now)
 }
 
 fn received_in(pass: &mut Held, piece: &[u8]) -> Result<(), Failure>
@@ -96,12 +103,13 @@ fn ended_in(
         (Some cache.old) (Some cache.new)
         (Some pass.old) (Some pass.new) result }
 {
-    match (cache, pass) {
-        (Held::Cache(shared), Held::Pass(stepped)) => {
-            c_pass::ended(alloc, shared, stepped, is_complete, now)
-        }
-        _ => Err(Failure::Absent),
-    }
+    let Held::Cache(shared) = cache else {
+        return Err(Failure::Absent);
+    };
+    let Held::Pass(stepped) = pass else {
+        return Err(Failure::Absent);
+    };
+    c_pass::ended(alloc, shared, stepped, is_complete, now)
 }
 
 /// Opens a closed handle with a pass for a request, and makes its first step.

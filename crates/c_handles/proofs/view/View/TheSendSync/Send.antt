@@ -2,7 +2,7 @@
 use Rattle.{std.specs.Prelude.{ℕ, [], ◌∷◌, Option, Some, None}, std_alloc.proofs.SendSync.{quiet, seen}}
 use Rattle.c_handles.specs.Ownership.{loan_owns}
 use base.Shift.{Keyless}
-use denote.{Param.Send.{IsSend, IsSync, AllSend, owning_send, struct_send, sendable}, RawPtr.Ptr}
+use denote.{Param.Send.{IsSend, AllSend, owning_send, struct_send, sendable}, RawPtr.Ptr}
 use denote.Struct.{Struct.exits_of, Owning.{shape, fields, to}}
 use Rattle.c_handles.specs.contracts.held.Held as Held
 use Rattle.c_handles.{proofs.held.Held.TheSendSync.the_sync, specs.contracts.view.View.{the_row, the_type}}

@@ -4,7 +4,7 @@ use Rattle.{std.specs.Prelude.is_some, core.proofs.alloc.Calls.Goes-blank, c_par
 use Rattle.c_parts.proofs.HandleValues.{flagged_own, flagged_made, flagged_typed, lone_val, lone_told, lone_typed}
 use Rattle.c_parts.proofs.HandleValues.{ptr_typed}
 use mir.{Syntax.Fn, Val.{Val, vbool}}
-use base.{Logic.{SProp, emp}, Fml.ftrue}
+use base.{Logic.{SProp, emp}}
 use prog.Wp.{WpFn}
 use contract.{Monad.{fact, fact_i}, Running.tables}
 use types.Kit.{‵, raw, ◌⊛◌, prop, ◌$◌, ◌∵◌, !, qed, by, keep, move, drop, use0, split, regoal, fsplit, fjoin}
