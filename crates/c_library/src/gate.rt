@@ -17,10 +17,10 @@ ghost use Rattle.c_library.specs.CacheStore.{Ends};
 use crate::giving::give;
 use crate::store::ended;
 use c_gate::{
-    GateFacts, GatePeer, GateRules, GateText, add, again, answer, ask_for, closes_after, connect_to,
-    connected, end, fields_of, finish, forward, is_for, key_of, next, open_gate, open_origin,
-    open_rules, open_tunnel, own_of, pass, push, receive, respond, response_of, sent, set_clock,
-    set_conditions, take_origin, timed_out, write_output, write_text,
+    GateFacts, GatePeer, GateRules, GateText, add, again, answer, ask_for, closes_after,
+    connect_to, connected, end, fields_of, finish, forward, is_for, key_of, next, open_gate,
+    open_origin, open_rules, open_tunnel, own_of, pass, push, receive, respond, response_of, sent,
+    set_clock, set_conditions, take_origin, timed_out, write_output, write_text,
 };
 use c_gateway::GatewayOptions;
 use c_handles::{Handle, close};

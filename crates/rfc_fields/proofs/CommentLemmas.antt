@@ -59,9 +59,16 @@ passes (Pair b c) d s h =
     let x = and_parts (is_value_byte b) (is_content c) h in
     behind-within (at d false) (at d true) 92 (b ∷ (content_text c ++ s)) refl
     ∙ behind-within (at d true) (at d false) b (content_text c ++ s) (after-escaped d b x.0) ∙ passes c d s x.1
-passes (Inner i c) d s h = grind (arith, common_steps, and_parts, behind-within, append_assoc,
-    passes i (suc d) (41 ∷ (content_text c ++ s)) (and_parts (is_content i) (is_content c) h).0,
-    and_parts (is_content i) (is_content c) h, passes c d s (and_parts (is_content i) (is_content c) h).1)
+passes (Inner i c) d s h = grind (
+  arith,
+  common_steps,
+  and_parts,
+  behind-within,
+  append_assoc,
+  passes i (suc d) (41 ∷ (content_text c ++ s)) (and_parts (is_content i) (is_content c) h).0,
+  and_parts (is_content i) (is_content c) h,
+  passes c d s (and_parts (is_content i) (is_content c) h).1,
+)
 
 -- what follows a comment is what the scan behind its first parenthesis finds
 pub behind-comment : (text rest : List ℕ) → HasComment text rest → behind (at 0 false) (drop 1 text) ≡ Some rest

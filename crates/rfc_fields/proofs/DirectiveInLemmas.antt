@@ -41,8 +41,16 @@ argument_again : (a : Option ValueParts) → is_argument a ≡ true → argument
 argument_again a h = grind (arith, value_again)
 
 parts_again : (d : DirectiveParts) → is_directive d ≡ true → parts_at (directive_text d) ≡ d
-parts_again d h = grind (arith, common_steps, and_parts, name_length, argument_stops, take-append_seam,
-    drop-append_seam, argument_again)
+parts_again d h = grind (
+  arith,
+  common_steps,
+  and_parts,
+  name_length,
+  argument_stops,
+  take-append_seam,
+  drop-append_seam,
+  argument_again,
+)
 
 both_hold : (d : DirectiveParts) (b c : Bool) → b ≡ true → c ≡ true → (if b && c then Some d else None) ≡ Some d
 both_hold d b c e f = rw (e, f) refl

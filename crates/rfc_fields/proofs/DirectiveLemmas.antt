@@ -16,8 +16,12 @@ argument_ends a = grind arith
 front-len : (name tail : List ℕ) → list_all is_token_byte name ≡ true → prefix_len is_token_byte tail ≡ 0
     → prefix_len is_token_byte (name ++ tail) ≡ length name
 front-len [] tail h k = k
-front-len (b ∷ name) tail h k = grind (arith, common_steps, and_parts,
-    front-len name tail (and_parts (is_token_byte b) (list_all is_token_byte name) h).1 k)
+front-len (b ∷ name) tail h k = grind (
+  arith,
+  common_steps,
+  and_parts,
+  front-len name tail (and_parts (is_token_byte b) (list_all is_token_byte name) h).1 k,
+)
 
 name_valid : (d : DirectiveParts) → is_directive d ≡ true → is_token d.name ≡ true
 name_valid d h = (and_parts (is_token d.name) (is_argument d.argument) h).0

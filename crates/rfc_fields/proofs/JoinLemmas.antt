@@ -95,8 +95,12 @@ Malforms q st s = (pieces 44 q st s ≡ Malformed ∷ []) ⊎ SplitsMalformed q 
 malforms_cut : (q : Bool) (st : State) (b : ℕ) (s : List ℕ) → is_cut 44 st b ≡ true → closes q st [] ≡ true
     → Malforms q Outside s → Malforms q st (b ∷ s)
 malforms_cut q st b s e o (inl h) = grind (arith, cut_is)
-malforms_cut q st b s e o (inr h) = grind (arith, common_steps,
-    closes_cons q st b h.before (cut_outside 44 q st b refl e) h.closed, cut_outside 44 q st b refl e)
+malforms_cut q st b s e o (inr h) = grind (
+  arith,
+  common_steps,
+  closes_cons q st b h.before (cut_outside 44 q st b refl e) h.closed,
+  cut_outside 44 q st b refl e,
+)
 
 malforms_push : (q : Bool) (st : State) (b : ℕ) (s : List ℕ) → is_cut 44 st b ≡ false
     → Malforms q (state_after q st b) s → Malforms q st (b ∷ s)
@@ -124,9 +128,16 @@ malforms q st (b ∷ s) h = malforms_step q st b s (is_cut 44 st b) refl (malfor
 ends_malformed : (q : Bool) (s : List ℕ) → Malforms q Outside s → EndsMalformed q s
 unfolding closes
 ends_malformed q s (inl h) = grind (arith, no_members)
-ends_malformed q s (inr h) = grind (arith, common_steps, append_assoc h.before (44 ∷ []) h.rest,
-    closes-join q Outside h.before, members-join q h.before h.rest h.closed, members-join q h.before, no_members q,
-    append-nil (members q h.before))
+ends_malformed q s (inr h) = grind (
+  arith,
+  common_steps,
+  append_assoc h.before (44 ∷ []) h.rest,
+  closes-join q Outside h.before,
+  members-join q h.before h.rest h.closed,
+  members-join q h.before,
+  no_members q,
+  append-nil (members q h.before),
+)
 
 pub malformed_comes_last : MalformedComesLast
 malformed_comes_last q s h = ends_malformed q s (malforms q Outside s h)

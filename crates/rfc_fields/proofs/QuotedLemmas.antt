@@ -17,8 +17,15 @@ octets-pair b s = refl
 pub quoted_texts_parse : QuotedTextsParse
 unfolding is_quoted_text octets_from
 quoted_texts_parse [] h = (refl, refl)
-quoted_texts_parse (Plain b ∷ os) h = grind (arith, common_steps,
-    and_parts (is_qdtext b) (list_all (is_octet true) os) h, and_parts, not_true, quoted_texts_parse os, octets-plain)
+quoted_texts_parse (Plain b ∷ os) h = grind (
+  arith,
+  common_steps,
+  and_parts (is_qdtext b) (list_all (is_octet true) os) h,
+  and_parts,
+  not_true,
+  quoted_texts_parse os,
+  octets-plain,
+)
 quoted_texts_parse (Pair b ∷ os) h = grind (arith, common_steps, and_parts, quoted_texts_parse os, octets-pair)
 
 -- octets of a text, and for one just past a backslash the octet before them

@@ -107,10 +107,20 @@ unfolding closes
 reading sep p Outside [] v h = record { first = []; others = []; valid = refl; text = refl }
 reading sep p Inside [] v h = absurd (false_true h)
 reading sep p Escaped [] v h = absurd (false_true h)
-reading sep p Outside (b ∷ s) v h = grind (arith, common_steps,
-    and_parts (is_value_byte b) (list_all is_value_byte s) v, outside_case, reading sep p (state_after p Outside b) s)
-reading sep p Inside (b ∷ s) v h = grind (arith, common_steps, and_parts (is_value_byte b) (list_all is_value_byte s) v,
-    inside_case, reading sep p (state_after p Inside b) s)
+reading sep p Outside (b ∷ s) v h = grind (
+  arith,
+  common_steps,
+  and_parts (is_value_byte b) (list_all is_value_byte s) v,
+  outside_case,
+  reading sep p (state_after p Outside b) s,
+)
+reading sep p Inside (b ∷ s) v h = grind (
+  arith,
+  common_steps,
+  and_parts (is_value_byte b) (list_all is_value_byte s) v,
+  inside_case,
+  reading sep p (state_after p Inside b) s,
+)
 reading sep p Escaped (b ∷ s) v h = grind (arith, common_steps, and_parts, reading sep p Inside s)
 
 pub has_a_reading : HasAReading
