@@ -15,7 +15,7 @@ from pathlib import Path
 from common import pages
 from common.part import Context, Part
 
-PARTS = ("smuggling", "traffic", "listening", "idle", "late", "speed")
+PARTS = ("smuggling", "readers", "traffic", "listening", "idle", "late", "speed")
 TITLE = "# Beside nginx, HAProxy, Apache and Varnish"
 HEAD = """
 `tests/gateway/run` wrote this page. It installs the peers from Debian and runs them at 127.0.0.1.

@@ -96,11 +96,12 @@ def shown(message: Message) -> str:
     return f"{method} {printed(target.encode('latin-1'))}" + (f"={printed(content)}" if content else "")
 
 
-def answers(port: int, attempt: Attempt) -> list[int]:
-    """The final statuses that a client gets. It waits a moment longer than for all that may come."""
+def statuses_of(port: int, attempt: Attempt) -> tuple[int, list[int]]:
+    """The client's port, and the final statuses that it gets. It waits a moment longer than for all that may come."""
     received = b""
     found: list[int] = []
     with socket.create_connection(("127.0.0.1", port), timeout=10) as connection:
+        own = connection.getsockname()[1]
         try:
             connection.sendall(attempt.sent)
             connection.settimeout(PATIENCE)
@@ -111,12 +112,12 @@ def answers(port: int, attempt: Attempt) -> list[int]:
                     connection.settimeout(AFTERWARDS)
         except OSError:
             pass
-    return found
+    return own, found
 
 
 def outcome_of(recorder: Recorder, port: int, attempt: Attempt) -> Outcome:
     recorder.forget()
-    statuses = answers(port, attempt)
+    _, statuses = statuses_of(port, attempt)
     streams, now = None, recorder.taken()
     while now != streams:
         time.sleep(AFTERWARDS)

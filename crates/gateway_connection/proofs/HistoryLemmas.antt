@@ -38,7 +38,7 @@ use Rattle.gateway_connection.specs.declared.event.OriginEvent.TheVariants as Is
 -- ---- requests
 
 -- the bytes of a request
-abbrev writing_of : Request → Writing
+abbrev pub writing_of : Request → Writing
 writing_of r = writing_at r.trailers (after_pieces r.pieces (encoder_in (plan_of r)))
 
 texts-append : (es : List Exchange) (e : Exchange) → texts (es ++ e ∷ []) ≡ texts es ++ request_bytes e.request
@@ -766,3 +766,21 @@ switch_late {limits} {old} {p} new r interim response next content reached is sa
     let found = found_at old.fault old new (Is.Switched next) says (λ fault is. absurd (cc)) in
     let body = reads_when (Hears r interim response content) reached found.0 is in
     let clash : Reads.Body body.0 ≡ Reads.Head = sym body.1 ∙ found.1.2.due.0 in absurd (cc)
+
+-- ---- what is put next
+
+-- what is written of the request now: no other takes content or an end
+abbrev pub WritesAt : Now → Writing → Type 0
+WritesAt (Asked r interim) w = w ≡ writing_of r
+WritesAt (Hears r interim response content) w = w ≡ writing_of r
+WritesAt now w = (e : Encoder) → ¬ (w ≡ Writes.Body e)
+
+writes_at : {k : Frame} {c : Client} {input : List ℕ} (now : Now) → Goes k c input now → WritesAt now c.writing
+writes_at Fresh g = λ e is. rests_open _ e _ is g.at
+writes_at (Asked r interim) g = g.at.1
+writes_at (Hears r interim response content) g = g.at.1
+writes_at (Over e) g = λ f is. rests_open _ f _ is g.at.0
+
+pub writes_now : {limits : Limits} {m : OriginConnection} {p : Past} → IsReached limits m p → m.fault ≡ None
+    → WritesAt p.now m.client.writing
+writes_now {p = p} reached none = writes_at p.now (goes_of (runs reached) none)

@@ -4,6 +4,7 @@
 
 mod event;
 mod head;
+pub mod laws;
 mod origin;
 
 pub use crate::event::{OriginEvent, OriginFault, OriginResponse};
