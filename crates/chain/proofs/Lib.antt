@@ -1,4 +1,5 @@
 mod AgeLemmas
+mod AskingLemmas
 mod ChainLemmas
 mod CheckLemmas
 mod ConnectionLemmas
