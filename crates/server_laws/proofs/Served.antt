@@ -68,39 +68,15 @@ get_reads = verb_reads (codes "GET") get_verb
 
 -- ==== The response to a GET of the root.
 
-full_by : (plan : Plan) → status_of plan ≡ 200 → plan ≡ Full
-full_by plan is = grind (arith, plan)
-
-only_place : (score : Representation → ℕ) (all : List Representation) (choice : Option ℕ) → length all ≡ 1
-    → Picks score all choice → place_of all choice ≡ Some 0
-only_place score all choice one picks = grind (arith, choice, all)
-
-ok_admitted : (present : ℕ) (resource : Resource) (asked : Asked) (reason : Reason) (status : Option ℕ) (sent : Sends)
-    (own : List Field) → resource.state ≡ state.Current → asked.denied ≡ None
-    → applies present resource asked reason ≡ true → AnswerGives present resource asked reason status sent own
-    → status_for 404 reason status ≡ 200 → reason ≡ Admitted
-ok_admitted present resource asked reason status sent own current none t g is = grind (arith, reason)
-
-whole_sent : (present : ℕ) (file : File) (method : List ℕ) (fields : LineMap) (boundary : FieldValue)
-    (status : Option ℕ) (sends : Sends) (own : List Field) (response : Option Planning)
-    → IsAnswered present method fields (current_of present file) (file_content file) boundary response
-    → IsGetOrHead method → status ≡ status_sent response → (absent : ℕ) → status_for absent Admitted status ≡ 200
-    → sends ≡ is_sent (Some 0) response → own ≡ response_fields fields (Some (representation_of present file)) response
-    → (sends ≡ Planned (Some 0) Full) × (own ≡ metadata_fields true (representation_of present file)
-    ++ fields_sent present Full (is_known_by fields) (current_of present file) (file_content file) boundary)
-whole_sent present file method fields boundary status sends own response h read is absent ok sent has =
-    grind (arith, response, full_by)
-
 -- what was found is that file
-record HasFile (file : File) (found : State) (absent : ℕ) (all : List File) : Type 0 where
+record HasFile (file : File) (found : State) (all : List File) : Type 0 where
   state : found ≡ state.Current
-  status : absent ≡ 404
   files : all ≡ file ∷ []
 
 file_found : (store : Memory) (negotiates : Bool) (uri : Uri) (named : List ℕ) (entry : Entry) (found : _)
     → negotiates ≡ false → named ≡ string_bytes store.path → HasOne store named entry
     → FindsEntry negotiates (HasOne store) uri named entry found → (file : File) × HasOne store named (Readable file)
-    × HasFile file found.state found.status found.files.items
+    × HasFile file found.state found.files.items
 file_found store negotiates uri named entry found off same has finds = grind (arith, entry)
 
 index_named : IsStorePath (codes "/") (codes "index.html")
@@ -132,7 +108,7 @@ module _ {now : Option ℕ} {left : ℕ} {settings : Settings} {site : Site} {re
     names_index = rw asks.path index_named
 
     there : (file : File) × HasOne store (codes "index.html") (Readable file)
-        × HasFile file x.found.state x.found.status x.found.files.items
+        × HasFile file x.found.state x.found.files.items
     there = elim x.leads [
       | inl h ↦
           let same : h.0 ≡ codes "index.html" = h.1.is_named ∙ sym names_index.is_named in
@@ -154,53 +130,29 @@ module _ {now : Option ℕ} {left : ℕ} {settings : Settings} {site : Site} {re
     fields_at : (name : List ℕ) (lines : List Line) → lines_at host_map name ≡ lines → x.asked.fields name ≡ lines
     fields_at name lines is = rw (x.asks.2.fields, asks.headers) is
 
-    all_sent : (response.status ≡ 200) × SendsContent file response source
-    all_sent =
-        get_whole _ _ _ _ _ _ _ _ _ _ _ of.is_site x.asks (ap (has_host x.asked.protocol) (fields_at (codes "host")
-        (codes "a.example" ∷ []) refl) ∙ host_valid x.asked.protocol) (rw (of.hosts ∙ ap (λ l. hosts_in l
-        settings.hosts) bare.hosts)) (ap has_known_expectation (fields_at (codes "expect") [] refl)) asks.method
-        names_index refl (asks_for_all site.resource.negotiation.coding (head_of request).headers asks.headers) looked
-
-    abbrev asked : Asked
-    asked = (answered x).0
-
-    abbrev h : IsAnswer (present x) (resource x) asked x.answer
-    h = (answered x).4
-
-    admitted : x.answer.reason ≡ Admitted
-    admitted = grind (arith, ok_admitted, there, answered, all_sent)
-
-    goes : GoesOn (present x) (resource x) asked (Some 0) (Some (representation_of (present x) file)) x.answer.status
-        x.answer.sends h.own
-    goes =
-        let e = there in
-        let why = admitted in
-        let gives = h.gives in
-        let all = x.described.are ∙ ap (map (representation_of (present x))) there.2.files in grind (arith, only_place)
-
     pub get_root : (file : File) × HasOne store (codes "index.html") (Readable file)
         × IsWhole now left site file response source × SendsContent file response source
     get_root =
-        let full = whole_sent (present x) file asked.method asked.fields site.resource.boundary x.answer.status
-        x.answer.sends h.own goes.response goes.answered ((answered x).3 (inl (x.asks.2.method ∙ asks.method)))
-        goes.has_status x.found.status (rw admitted at (sym x.carries.status ∙ all_sent.0)) goes.sends
-        goes.has_fields in
-        let alone : h.shared ≡ [] = simp cors at h.is_shared in
-        let vary : vary_fields (vary_lines (resource x) x.answer.reason) ≡ [] =
-        rw admitted (simp (of.is_site.media_type, of.is_site.language, negotiates)) in
-        let shown : headers_sent (is_some site.resource.cors) (given x) ≡ whole_fields (clock now (file ∷ [])) file =
-        ap (λ (cors : Option Policy). headers_sent (is_some cors) (given x)) cors
-        ∙ rw (h.fields, alone, append-nil, vary, append-nil, full.1)
-        (ap (λ (l : List File). whole_fields (clock now l) file) there.2.files) in (
+        let finds = found_entry site.resource.negotiation.coding (λ path. Readable file) request (codes "index.html")
+        (Readable file) looked.found names_index refl looked.leads in
+        let alone : looked.found.files.items ≡ file ∷ [] = subst (λ (b : Bool). AreContents b (λ path e. e ≡ Readable
+        file) (codes "index.html") file looked.found.files.items) negotiates finds.2 in
+        let all = get_has_all _ _ _ _ _ _ _ _ _ of.is_site x.asks (ap (has_host x.asked.protocol)
+        (fields_at (codes "host") (codes "a.example" ∷ []) refl) ∙ host_valid x.asked.protocol) (rw (of.hosts
+        ∙ ap (λ l. hosts_in l settings.hosts) bare.hosts)) (ap has_known_expectation (fields_at (codes "expect") []
+        refl)) asks.method (asks_for_all site.resource.negotiation.coding (head_of request).headers asks.headers) looked
+        file [] finds.0 alone in (
           file,
           there.1,
           record {
-            status = all_sent.0;
-            fields = x.carries.headers ∙ simp (full.0, append-nil, shown);
-            pieces = x.carries.pieces ∙ simp (full.0, there.2.files);
-            opens = x.opens ∙ simp (full.0, there.2.files);
+            status = all.0.status;
+            fields = all.1 cors negotiates
+                ∙ ap (λ (l : List File). trimmed_lines ((first_fields now left ++ cache_fields site.cache_control)
+                ++ whole_fields (clock now l) file)) alone;
+            pieces = all.0.pieces;
+            opens = all.0.opens;
           },
-          all_sent.1,
+          λ kept sent memory h. all_sent file.source source response kept sent all.0 memory h,
         )
 
 -- ==== What a connection sends in answer to a literal request.

@@ -1,31 +1,26 @@
 //! The policy for requests from other origins.
 
+use crate::value_of;
 use decide_cors::{Allowed, AllowedNames, CorsPolicy, CorsRules, RulesError};
-use headers::{Header, HeaderValue, Origin, Refused};
+use headers::{Header, Origin, Refused};
 use http_header::{
-    ACCEPT_RANGES, CONTENT_ENCODING, CONTENT_RANGE, ETAG, HeaderValueError, IF_MATCH,
-    IF_MODIFIED_SINCE, IF_NONE_MATCH, IF_RANGE, IF_UNMODIFIED_SINCE, RANGE,
+    ACCEPT_RANGES, CONTENT_ENCODING, CONTENT_RANGE, ETAG, IF_MATCH, IF_MODIFIED_SINCE,
+    IF_NONE_MATCH, IF_RANGE, IF_UNMODIFIED_SINCE, RANGE,
 };
 use std::alloc::{AllocError, Global};
 
-/// The error of a text that is no origin.
-#[derive(Clone, Copy)]
-pub struct NoOrigin;
+// The mistake of a text that is no origin.
+const NO_ORIGIN: &str = "the value of '--cors-origin' is no origin";
 
 // One origin, or any.
-fn origins_of(alloc: Global, text: &str) -> Result<Allowed<Origin>, Refused<NoOrigin>> {
+fn origins_of(alloc: Global, text: &str) -> Result<Allowed<Origin>, Refused<&'static str>> {
     if text == "*" {
         return Ok(Allowed::Any);
     }
-    let line = match HeaderValue::from_str(alloc, text) {
-        Ok(line) => line,
-        Err(HeaderValueError::Invalid) => return Err(Refused::Invalid(NoOrigin)),
-        Err(HeaderValueError::OutOfMemory) => return Err(Refused::Memory(AllocError)),
-    };
-    let lines = [line];
+    let lines = [value_of(alloc, text, NO_ORIGIN)?];
     match Origin::decode(alloc, &mut lines.iter()) {
         Ok(origin) => Ok(Allowed::Listed(vec![in alloc; origin]?)),
-        Err(Refused::Invalid(_)) => Err(Refused::Invalid(NoOrigin)),
+        Err(Refused::Invalid(_)) => Err(Refused::Invalid(NO_ORIGIN)),
         Err(Refused::Memory(refused)) => Err(Refused::Memory(refused)),
     }
 }
@@ -34,7 +29,7 @@ fn origins_of(alloc: Global, text: &str) -> Result<Allowed<Origin>, Refused<NoOr
 /// for ranges and make conditions, and read what a response says about its representation.
 /// Credentials aren't allowed. `Invalid` if the text is no origin that a browser sends, `Memory` if
 /// an allocation fails.
-pub fn policy_for(alloc: Global, text: &str) -> Result<CorsPolicy, Refused<NoOrigin>> {
+pub fn policy_for(alloc: Global, text: &str) -> Result<CorsPolicy, Refused<&'static str>> {
     let mut rules = CorsRules::new(alloc, origins_of(alloc, text)?);
     let names = vec![in alloc;
         IF_MATCH,
@@ -50,6 +45,6 @@ pub fn policy_for(alloc: Global, text: &str) -> Result<CorsPolicy, Refused<NoOri
     match CorsPolicy::new(alloc, rules) {
         Ok(policy) => Ok(policy),
         Err(RulesError::Memory) => Err(Refused::Memory(AllocError)),
-        Err(_) => Err(Refused::Invalid(NoOrigin)),
+        Err(_) => Err(Refused::Invalid(NO_ORIGIN)),
     }
 }

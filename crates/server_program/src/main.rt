@@ -12,7 +12,7 @@ mod pages;
 mod place;
 mod stamp;
 
-use crate::cors::{NoOrigin, policy_for};
+use crate::cors::policy_for;
 use crate::folder::Folder;
 use crate::kept::KeptFiles;
 use crate::options::command;
@@ -35,6 +35,13 @@ use std::{env, fs, io};
 // The status of a mistake in the words of the command line.
 const MISTAKE: u8 = 2;
 
+// Mistakes in the values of options.
+const BAD_CACHE_CONTROL: &str = "'--cache-control' has a byte that no field value can have";
+
+const BAD_HOST: &str = "'--host' has a byte that no field value can have";
+
+const BAD_PAGES: &str = "the pages of '--pages' can't be read";
+
 // The path of a folder with every link resolved. `None` if it is no folder.
 fn folder_at(rt: &HostRuntime, path: &str) -> Result<Option<PathBuf>, AllocError> {
     match fs::canonicalize(rt, path) {
@@ -44,12 +51,16 @@ fn folder_at(rt: &HostRuntime, path: &str) -> Result<Option<PathBuf>, AllocError
     }
 }
 
-// A value, or `None` if no field value can have the text.
-fn valid<T: Drop>(made: Result<T, HeaderValueError>) -> Result<Option<T>, AllocError> {
-    match made {
-        Ok(value) => Ok(Some(value)),
-        Err(HeaderValueError::Invalid) => Ok(None),
-        Err(HeaderValueError::OutOfMemory) => Err(AllocError),
+/// Returns the field value of a text, or the mistake if it is none.
+pub fn value_of(
+    alloc: Global,
+    text: &str,
+    mistake: &'static str,
+) -> Result<HeaderValue, Refused<&'static str>> {
+    match HeaderValue::from_str(alloc, text) {
+        Ok(value) => Ok(value),
+        Err(HeaderValueError::Invalid) => Err(Refused::Invalid(mistake)),
+        Err(HeaderValueError::OutOfMemory) => Err(Refused::Memory(AllocError)),
     }
 }
 
@@ -65,9 +76,9 @@ fn divider_for(rt: &HostRuntime) -> anyhow::Result<Divider> {
 fn cache_control_of(
     alloc: Global,
     matches: &ArgMatches<'_>,
-) -> Result<Option<HeaderValue>, HeaderValueError> {
+) -> Result<Option<HeaderValue>, Refused<&'static str>> {
     match matches.get_str("cache-control") {
-        Some(text) => Ok(Some(HeaderValue::from_str(alloc, text.trim())?)),
+        Some(text) => Ok(Some(value_of(alloc, text.trim(), BAD_CACHE_CONTROL)?)),
         None => Ok(None),
     }
 }
@@ -76,7 +87,7 @@ fn cache_control_of(
 fn cors_of(
     alloc: Global,
     matches: &ArgMatches<'_>,
-) -> Result<Option<CorsPolicy>, Refused<NoOrigin>> {
+) -> Result<Option<CorsPolicy>, Refused<&'static str>> {
     match matches.get_str("cors-origin") {
         Some(text) => Ok(Some(policy_for(alloc, text)?)),
         None => Ok(None),
@@ -84,13 +95,14 @@ fn cors_of(
 }
 
 // The hosts that are served, or none for any.
-fn hosts_of(alloc: Global, matches: &ArgMatches<'_>) -> Result<Vec<HeaderValue>, HeaderValueError> {
+fn hosts_of(
+    alloc: Global,
+    matches: &ArgMatches<'_>,
+) -> Result<Vec<HeaderValue>, Refused<&'static str>> {
     let mut hosts = Vec::new(alloc);
     for name in matches.get_strs("host").unwrap_or(&[]) {
-        let host = HeaderValue::from_str(alloc, name)?;
-        if hosts.push(host).is_err() {
-            return Err(HeaderValueError::OutOfMemory);
-        }
+        let host = value_of(alloc, name, BAD_HOST)?;
+        hosts.push(host)?;
     }
     Ok(hosts)
 }
@@ -108,49 +120,38 @@ fn logged_for(rt: &HostRuntime, matches: &ArgMatches<'_>) -> Result<Option<Strin
 }
 
 // The site's own pages, if there are some.
-fn pages_of(rt: &HostRuntime, matches: &ArgMatches<'_>) -> io::Result<Vec<Page>> {
-    match matches.get_str("pages") {
-        Some(folder) => pages_in(rt, folder),
-        None => Ok(Vec::new(rt.alloc())),
+fn pages_of(
+    rt: &HostRuntime,
+    matches: &ArgMatches<'_>,
+) -> Result<Vec<Page>, Refused<&'static str>> {
+    let Some(folder) = matches.get_str("pages") else {
+        return Ok(Vec::new(rt.alloc()));
+    };
+    match pages_in(rt, folder) {
+        Ok(pages) => Ok(pages),
+        Err(error) if error.kind() == ErrorKind::OutOfMemory => Err(Refused::Memory(AllocError)),
+        Err(_) => Err(Refused::Invalid(BAD_PAGES)),
     }
 }
 
-// How the words of the command line have the files served. `None` if one of them is wrong; standard error
-// says which.
-fn settings_of(rt: &HostRuntime, matches: &ArgMatches<'_>) -> anyhow::Result<Option<Settings>> {
-    let Some(cache_control) = valid(cache_control_of(rt.alloc(), matches))? else {
-        eprintln!(rt; "error: '--cache-control' has a byte that no field value can have")?;
-        return Ok(None);
-    };
-    let cors = match cors_of(rt.alloc(), matches) {
-        Ok(cors) => cors,
-        Err(Refused::Memory(refused)) => return Err(refused.into()),
-        Err(Refused::Invalid(NoOrigin)) => {
-            eprintln!(rt; "error: the value of '--cors-origin' is no origin")?;
-            return Ok(None);
-        }
-    };
-    let Some(hosts) = valid(hosts_of(rt.alloc(), matches))? else {
-        eprintln!(rt; "error: '--host' has a byte that no field value can have")?;
-        return Ok(None);
-    };
-    let pages = match pages_of(rt, matches) {
-        Ok(pages) => pages,
-        Err(error) if error.kind() == ErrorKind::OutOfMemory => return Err(error.into()),
-        Err(_) => {
-            eprintln!(rt; "error: the pages of '--pages' can't be read")?;
-            return Ok(None);
-        }
-    };
-    let divider = divider_for(rt)?;
-    Ok(Some(Settings {
+// How the words of the command line have the files served, or the first mistake in them.
+fn settings_of(
+    rt: &HostRuntime,
+    matches: &ArgMatches<'_>,
+    divider: Divider,
+) -> Result<Settings, Refused<&'static str>> {
+    let cache_control = cache_control_of(rt.alloc(), matches)?;
+    let cors = cors_of(rt.alloc(), matches)?;
+    let hosts = hosts_of(rt.alloc(), matches)?;
+    let pages = pages_of(rt, matches)?;
+    Ok(Settings {
         cache_control,
         negotiates: matches.get_flag("precompressed"),
         hosts,
         cors,
         divider,
         pages,
-    }))
+    })
 }
 
 // The files of the folder whose resolved path this is.
@@ -171,30 +172,53 @@ fn folder_of<'a>(
     })
 }
 
-// Serves one connection. The status is 1 if reading or writing fails.
-fn serve(
-    rt: &HostRuntime,
-    store: Folder<'_>,
-    settings: Settings,
+// What serves the files of a folder.
+fn service_of<'a>(
+    alloc: Global,
+    store: Folder<'a>,
+    site: Site,
     requests: u64,
-) -> anyhow::Result<ExitCode> {
-    let keys = RandomState::new(rt)?;
-    let mut service = FileService {
-        alloc: rt.alloc(),
+) -> FileService<Folder<'a>> {
+    FileService {
+        alloc,
         store,
-        site: Site::new(rt.alloc(), settings)?,
+        site,
         left: requests,
         source: None,
         date: None,
-    };
+    }
+}
+
+// Serves one connection.
+fn serve(
+    rt: &HostRuntime,
+    keys: RandomState,
+    service: &mut FileService<Folder<'_>>,
+) -> io::Result<()> {
     let (mut reader, mut writer) = (rt.stdin(), rt.stdout());
-    match serve_store(
-        keys,
-        Config::default(),
-        &mut service,
-        &mut reader,
-        &mut writer,
-    ) {
+    serve_store(keys, Config::default(), service, &mut reader, &mut writer)
+}
+
+// Serves the files of the folder whose resolved path this is, unless the words have a mistake. The status is
+// 1 if reading or writing fails.
+fn serve_folder(
+    rt: &HostRuntime,
+    matches: &ArgMatches<'_>,
+    root: &str,
+) -> anyhow::Result<ExitCode> {
+    let settings = match settings_of(rt, matches, divider_for(rt)?) {
+        Ok(settings) => settings,
+        Err(Refused::Memory(error)) => return Err(error.into()),
+        Err(Refused::Invalid(mistake)) => {
+            eprintln!(rt; "error: {mistake}")?;
+            return Ok(ExitCode::from(MISTAKE));
+        }
+    };
+    let requests = matches.get_one::<u64>("requests").unwrap_or(u64::MAX);
+    let site = Site::new(rt.alloc(), settings)?;
+    let keys = RandomState::new(rt)?;
+    let store = folder_of(rt, matches, root)?;
+    match serve(rt, keys, &mut service_of(rt.alloc(), store, site, requests)) {
         Ok(()) => Ok(ExitCode::SUCCESS),
         Err(_) => Ok(ExitCode::FAILURE),
     }
@@ -206,12 +230,7 @@ fn run(rt: &HostRuntime, matches: &ArgMatches<'_>) -> anyhow::Result<ExitCode> {
         eprintln!(rt; "error: '{name}' is no folder")?;
         return Ok(ExitCode::from(MISTAKE));
     };
-    let Some(settings) = settings_of(rt, matches)? else {
-        return Ok(ExitCode::from(MISTAKE));
-    };
-    let store = folder_of(rt, matches, root.as_str())?;
-    let requests = matches.get_one::<u64>("requests").unwrap_or(u64::MAX);
-    serve(rt, store, settings, requests)
+    serve_folder(rt, matches, root.as_str())
 }
 
 fn main(rt: HostRuntime) -> anyhow::Result<ExitCode> {

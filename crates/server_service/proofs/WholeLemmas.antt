@@ -1,67 +1,53 @@
 -- A GET that makes no condition and asks for no range gets the content.
-use Rattle.std.proofs.Common.{◌≡◌, ℕ, ◌<◌, Bool, true, false, not, ◌&&◌, List, [], ◌∷◌, length, cond, Option, Some}
-use Rattle.std.{proofs.Common.{None, refl, sym, subst, ◌∙◌, ap, inl, inr, arith, lit<, map}, specs.Prelude.bytes_eq}
-use Rattle.std.specs.{Prelude.{codes, find, is_some, nat_lt, option_map, slice_get, string_bytes}, Global.Vec}
-use Rattle.{http.specs.{declared.request.Request.Request, Request.head_of}, http_header.specs.FieldValue.FieldValue}
-use Rattle.{http_uri.specs.Uri.uri_path, headers.specs.{LineMap.{Field, LineMap, lines_at}, Lines.Line}}
-use Rattle.server_connection.specs.{Pieces.AreSent, declared.piece.Piece.{Piece, TheVariants.Range}}
+use Rattle.decide_cors.{proofs.MadeLemmas.{fit-more, fit-none, made, vec}, specs.Policy.Policy}
+use Rattle.decide_negotiation.{proofs.ChoiceLemmas.picks_one, specs.{Choice.{Picks, first_place}, Qualities.quality_in}}
+use Rattle.decide_negotiation.specs.{Qualities.rank, declared.acceptability.Quality.Quality}
+use Rattle.decide_preconditions.proofs.{OnePlanLemmas.one_plan, PreconditionLemmas.unconditional}
+use Rattle.decide_preconditions.specs.{Fields.{lines_sent, status_of}, Plans.{IsPlan, IsPlanned, IsSamePlan}}
+use Rattle.decide_preconditions.specs.{Responses.IsAnswered, Selection.Selects, declared.plan.Plan.Plan}
+use Rattle.decide_preconditions.specs.declared.{plan.Plan.TheVariants.Full, response.Response.Response as Planning}
+use Rattle.decide_preconditions.specs.declared.selection.Selection.TheVariants.{Whole}
+use Rattle.decide_resource.{proofs.{AnswerLemmas.one_answer, PickLemmas.picks_alike}, specs.Answers.{Goes, GoesOn}}
+use Rattle.decide_resource.specs.Answers.{IsAnswer, IsSelected, IsShared, is_sent, place_of, status_sent}
+use Rattle.decide_resource.specs.Applies.{applies, exceeds, host_named, is_misdirected, is_own, is_unacceptable}
+use Rattle.decide_resource.specs.{Applies.rule_for, Fields.{lines_of_value, metadata_fields, vary_fields, vary_lines}}
+use Rattle.decide_resource.specs.{Reasons.Before, Representations.{are_unacceptable, joined, rank_by, score}}
+use Rattle.decide_resource.specs.{Requests.Request as Asked, declared.answer.{Answer.Answer, Sends.Sends}}
+use Rattle.decide_resource.specs.declared.{answer.Sends.TheVariants.Planned, reason.Reason.Reason}
+use Rattle.decide_resource.specs.declared.{reason.Reason.TheVariants.Admitted, representation.Negotiation.Negotiation}
+use Rattle.decide_resource.specs.declared.representation.Representation.{Representation}
+use Rattle.decide_resource.specs.declared.{request.RequestContent.TheVariants.Absent, resource.MethodRule.MethodRule}
+use Rattle.decide_resource.specs.declared.resource.{Resource.Resource, State.{State, TheVariants.Current}}
+use Rattle.gateway_messages.specs.{Expectations.has_known_expectation, Requests.has_host}
+use Rattle.{gateway_messages.specs.declared.protocol.Protocol.Protocol, headers.specs.LineMap.{Field, LineMap}}
+use Rattle.headers.specs.{LineMap.{fields_of, lines_at}, Lines.Line, declared.Encoded.Encoded}
+use Rattle.{http.specs.{Request.head_of, declared.request.Request.Request}, http_header.specs.FieldValue.FieldValue}
+use Rattle.{http_uri.specs.Uri.uri_path, rfc_fields.specs.Scan.Member, server_connection.specs.Pieces.AreSent}
+use Rattle.server_connection.specs.declared.piece.Piece.{Piece, TheVariants.Range}
 use Rattle.server_connection.specs.declared.plan.ResponsePlan.{ResponsePlan as Response}
-use Rattle.{rfc_fields.specs.Scan.Member, gateway_messages.specs.Expectations.has_known_expectation}
-use Rattle.gateway_messages.specs.{Requests.has_host, declared.protocol.Protocol.Protocol}
-use Rattle.decide_negotiation.specs.{Choice.{Picks, first_place}, Codings.encoding_quality, Languages.language_says}
-use Rattle.decide_negotiation.specs.{MediaRanges.media_type_says, Qualities.{quality_by, quality_in, rank}}
-use Rattle.decide_negotiation.{specs.declared.acceptability.Quality.Quality, proofs.ChoiceLemmas.picks_one}
-use Rattle.decide_preconditions.specs.{Plans.{IsPlan, IsPlanned, IsSamePlan}, Responses.IsAnswered, Selection.Selects}
-use Rattle.decide_preconditions.specs.declared.{part.Part.Part, plan.Plan.{Plan, TheVariants.{Full, Multiple}}}
-use Rattle.decide_preconditions.specs.declared.response.Response.{Response as Planning}
-use Rattle.decide_preconditions.{specs.declared.selection.Selection.TheVariants.Whole, proofs.OnePlanLemmas.one_plan}
-use Rattle.decide_preconditions.proofs.PreconditionLemmas.{unconditional}
-use Rattle.decide_resource.specs.Answers.{GivesIf, Goes, GoesOn, IsAnswer, IsSelected, at_place, is_admitted, is_sent}
-use Rattle.decide_resource.{specs.Answers.{place_of, status_sent}, specs.Applies.{applies, exceeds, is_misdirected}}
-use Rattle.decide_resource.specs.Applies.{is_unacceptable, rule_for}
-use Rattle.decide_resource.specs.Representations.{are_unacceptable, coding_of, joined, rank_by, score}
-use Rattle.decide_resource.specs.Requests.{Request as Asked}
-use Rattle.decide_resource.specs.declared.denied.Denied.{Denied as Denial}
-use Rattle.decide_resource.specs.declared.answer.{Answer.Answer, Sends.{Sends, TheVariants.Planned}}
-use Rattle.decide_resource.specs.declared.reason.Reason.{Reason, TheVariants.{InvalidHost, Misdirected, Preflight}}
-use Rattle.decide_resource.specs.declared.reason.Reason.TheVariants.{Denied, UnknownMethod, MethodNotAllowed}
-use Rattle.decide_resource.specs.declared.reason.Reason.TheVariants.{UnmetExpectation, Options, PartialContent, Moved}
-use Rattle.decide_resource.specs.declared.reason.Reason.TheVariants.{Gone, NotFound, LengthRequired, ContentTooLarge}
-use Rattle.decide_resource.specs.declared.reason.Reason.TheVariants.{UnsupportedMediaType, UnsupportedCoding}
-use Rattle.decide_resource.specs.declared.reason.Reason.TheVariants.{NotAcceptable, PreconditionRequired, Admitted}
-use Rattle.decide_resource.specs.declared.representation.{Negotiation.Negotiation, Representation.Representation}
-use Rattle.decide_resource.specs.declared.request.RequestContent.{RequestContent, TheVariants.Absent}
-use Rattle.decide_resource.specs.declared.resource.{MethodRule.MethodRule, Resource.Resource, State.State}
-use Rattle.decide_resource.{specs.declared.resource.State.TheVariants.Current, proofs.PickLemmas.picks_alike}
-use Rattle.server_service.specs.Answer.{AsksForAll, Decides, IsAnswerAt, clock, is_several, pieces_for, pieces_of}
-use Rattle.server_service.specs.{Answer.{pieces_sent, sends_several, source_of, source_sent, status_for}, Asked.Asks}
-use Rattle.server_service.specs.File.{current_of, gives_of, len_of, limits_of, representation_of, validators_of}
-use Rattle.server_service.specs.Found.{FindsEntry, FindsListing, HasListing, LeadsTo, listed_file}
-use Rattle.server_service.specs.{Multipart.multipart, Sites.IsSite, declared.file.Entry.{Entry, TheVariants.Listed}}
-use Rattle.server_service.specs.declared.{file.{Entry.TheVariants.Readable, File.File}, found.Found.Found}
-use Rattle.server_service.specs.declared.{settings.Site.Site, source.Source.Source}
 use Rattle.server_files.specs.{Listings.listing_page, Path.{Names, ends_in_slash}, declared.kept.Kept.Kept}
-use Rattle.server_files.specs.declared.listing.Listing.{Listing}
-use Rattle.server_service.specs.declared.source.Source.TheVariants.{Kept as InMemory}
-use Rattle.server_service.proofs.{ContentLemmas.sent_whole, OneResponseLemmas.asked_once, PlanLemmas.same_by_plan}
-use Rattle.server_service.{proofs.RepresentationLemmas.contents_own, specs.Answer.{Carries, IsSendable, first_fields}}
-use Rattle.{server_service.specs.Whole.{GetsWhole, whole_fields}, std.proofs.Common.{◌++◌, ◌^◌, drop}}
-use Rattle.std.specs.Option.{option_map_or}
-use Rattle.{headers.specs.{LineMap.fields_of, declared.Encoded.Encoded}, decide_cors.specs.Policy.Policy}
-use Rattle.{decide_cors.proofs.MadeLemmas.{fit-more, fit-none, made, vec}, decide_preconditions.specs.Fields.lines_sent}
-use Rattle.decide_resource.specs.{Answers.IsShared, Applies.{host_named, is_own}, Fields.{line_if, lines_of_value}}
-use Rattle.decide_resource.specs.{Fields.{metadata_fields, vary_fields, vary_lines}, Reasons.Before}
+use Rattle.{server_files.specs.declared.listing.Listing.Listing, server_service.proofs.ContentLemmas.sent_whole}
+use Rattle.server_service.proofs.{OneResponseLemmas.asked_once, RepresentationLemmas.contents_own}
+use Rattle.server_service.specs.Answer.{AsksForAll, Carries, Decides, IsAnswerAt, IsSendable, cache_fields, clock}
+use Rattle.server_service.specs.{Answer.{first_fields, sends_several, source_sent}, Asked.Asks, File.current_of}
+use Rattle.server_service.specs.{File.{gives_of, len_of, limits_of, representation_of, validators_of}, Found.FindsEntry}
+use Rattle.server_service.specs.{Found.{FindsListing, HasListing, LeadsTo, listed_file}, Response.fields_of as lines_of}
+use Rattle.server_service.specs.{Response.{headers_of, trimmed_lines}, Sites.IsSite, Whole.{GetsWhole, whole_fields}}
+use Rattle.server_service.specs.declared.file.{Entry.{Entry, TheVariants.{Listed, Readable}}, File.File}
+use Rattle.server_service.specs.declared.{found.Found.Found, settings.Site.Site, source.Source.Source}
+use Rattle.{server_service.specs.declared.source.Source.TheVariants.Kept as InMemory, std.proofs.Common.{Bool, List}}
+use Rattle.std.proofs.Common.{None, Option, Some, [], ap, append-nil, arith, drop, false, inl, inr, length, lit<, map}
+use Rattle.std.{proofs.Common.{not, refl, subst, sym, true, ℕ, ◌&&◌, ◌++◌, ◌<◌, ◌^◌, ◌∙◌, ◌∷◌, ◌≡◌}, specs.Global.Vec}
+use Rattle.std.specs.{Option.option_map_or, Prelude.{codes, is_some, nat_lt, slice_get, string_bytes}}
 
 abbrev get : List ℕ
 get = codes "GET"
 
 lines_few : {V : Type 0} (text : V → Line) (value : Option V) → length (lines_sent text value) < 2 ^ 63
-lines_few text None = omega arith
-lines_few text (Some value) = omega arith
+lines_few text value = grind (arith, value)
 
 value_few : (value : Option FieldValue) → length (lines_of_value value) < 2 ^ 63
-value_few None = omega arith
-value_few (Some value) = omega arith
+value_few value = grind (arith, value)
 
 -- one piece, which is all of the source
 abbrev pub all_of : Source → List Piece
@@ -69,10 +55,9 @@ all_of source = Range (record { start = 0; len = len_of source }) ∷ []
 
 -- ---- the plan
 
--- the plan is that of a whole file
-record IsWholePlan (own : File) (plan : Plan) : Type 0 where
-  one : is_several plan ≡ false
-  pieces : (divider : List ℕ) → pieces_sent divider own plan ≡ all_of own.source
+-- 200 sends the whole content
+full_by : (plan : Plan) → status_of plan ≡ 200 → plan ≡ Full
+full_by plan is = grind (arith, plan)
 
 module _ (negotiates : Bool) (present : ℕ) (fields : LineMap) (own : File) (all : AsksForAll negotiates fields) where
   selects_whole : Selects present get fields (validators_of present own) (len_of own.source) (limits_of own.coding)
@@ -98,18 +83,6 @@ module _ (negotiates : Bool) (present : ℕ) (fields : LineMap) (own : File) (al
   same plan h = one_plan present get fields (current_of present own) (len_of own.source) (limits_of own.coding) plan
       (Some Full) h full
 
-  module _ (plan : Plan) (h : Plans (Some plan)) where
-    by_plan : {X : Type 0} (of_plan : Plan → X) (several : List Part → X)
-        → ((parts : _) → of_plan (Multiple parts) ≡ several parts.items) → of_plan plan ≡ of_plan Full
-    by_plan of_plan several same_parts = same_by_plan present get fields (current_of present own) (len_of own.source)
-        (limits_of own.coding) of_plan several same_parts plan Full h full (same (Some plan) h)
-
-    whole_plan : IsWholePlan own plan
-    whole_plan = record {
-      one = by_plan is_several (λ _. true) (λ _. refl);
-      pieces = λ divider. by_plan (pieces_sent divider own) (multipart divider own) (λ _. refl);
-    }
-
 -- ---- the representation
 
 abbrev top : ℕ
@@ -126,24 +99,7 @@ score_top : (negotiation : Negotiation) (fields : LineMap) (x : Representation) 
     → negotiation.language ≡ false → (negotiation.coding ≡ true → fields (codes "accept-encoding") ≡ [])
     → score negotiation fields x ≡ top
 unfolding score
-score_top negotiation fields x media_type language coding =
-    let media_offer : Option Line = option_map (λ (v : FieldValue). v.bytes) x.content.media_type in
-    let language_offer : Option Line = option_map (λ (v : FieldValue). v.bytes) x.language in
-    let media_rank : ℕ = rank_by (quality_by media_type_says) negotiation.media_type (fields (codes "accept"))
-    media_offer in
-    let language_rank : ℕ = rank_by (quality_by language_says) negotiation.language
-    (fields (codes "accept-language")) language_offer in
-    let coding_rank : ℕ = rank_by encoding_quality negotiation.coding (fields (codes "accept-encoding"))
-    (Some (coding_of x)) in
-    let first : media_rank ≡ 1001 = rank_top (quality_by media_type_says) negotiation.media_type
-    (fields (codes "accept")) media_offer (λ used. absurd (cc (used, media_type))) in
-    let second : language_rank ≡ 1001 = rank_top (quality_by language_says) negotiation.language
-    (fields (codes "accept-language")) language_offer (λ used. absurd (cc (used, language))) in
-    let third : coding_rank ≡ 1001 =
-    rank_top encoding_quality negotiation.coding (fields (codes "accept-encoding")) (Some (coding_of x)) coding in
-    ap (λ (n : ℕ). joined n language_rank coding_rank) first
-    ∙ ap (λ (n : ℕ). joined 1001 n coding_rank) second
-    ∙ ap (λ (n : ℕ). joined 1001 1001 n) third
+score_top negotiation fields x media_type language coding = grind (arith, rank_top)
 
 -- of things of one score the first is picked
 picks_first : {A : Type 0} (n : ℕ) (xs : List A) → 0 < n → Picks (λ (x : A). n) xs (first_place xs)
@@ -160,8 +116,7 @@ picks_first n (x ∷ xs) some = record {
 rule_found : (rules : List MethodRule) (rule : MethodRule) → rules ≡ rule ∷ [] → rule.method ≡ get
     → rule_for rules get ≡ Some rule
 unfolding rule_for
-rule_found rules rule e m = ap (find (λ (r : MethodRule). bytes_eq r.method get)) e
-    ∙ ap (λ (name : List ℕ). cond (bytes_eq name get) (Some rule) None) m
+rule_found rules rule e m = rw (e, m) refl
 
 abbrev reading : Protocol → Option Line → LineMap → Asked
 reading protocol authority fields = record {
@@ -175,28 +130,7 @@ reading protocol authority fields = record {
 
 as_reading : (asked : Asked) → asked.method ≡ get → asked.content ≡ Absent → asked.denied ≡ None
     → asked ≡ reading asked.protocol asked.authority asked.fields
-as_reading asked method content admitted = ap (λ (m : List ℕ). record {
-  protocol = asked.protocol;
-  method = m;
-  authority = asked.authority;
-  content = asked.content;
-  fields = asked.fields;
-  denied = asked.denied;
-}) method ∙ ap (λ (c : RequestContent). record {
-  protocol = asked.protocol;
-  method = get;
-  authority = asked.authority;
-  content = c;
-  fields = asked.fields;
-  denied = asked.denied;
-}) content ∙ ap (λ (d : Option Denial). record {
-  protocol = asked.protocol;
-  method = get;
-  authority = asked.authority;
-  content = Absent;
-  fields = asked.fields;
-  denied = d;
-}) admitted
+as_reading asked method content admitted = grind arith
 
 -- what a read asks of the resource of a file
 record IsReadable (site : Resource) : Type 0 where
@@ -214,8 +148,7 @@ readable divider site is_site = record {
 }
 
 fits_none : (limit : Option ℕ) → exceeds limit Absent ≡ false
-fits_none None = refl
-fits_none (Some limit) = refl
+fits_none limit = grind (arith, limit)
 
 module _ (site : Resource) (is_site : IsReadable site) (v : Vec Representation)
     (protocol : Protocol) (authority : Option Line) (fields : LineMap)
@@ -233,43 +166,17 @@ module _ (site : Resource) (is_site : IsReadable site) (v : Vec Representation)
   acceptable = ap (λ (strict : Bool). strict && (nat_lt 0 (length v.items)
       && are_unacceptable site.negotiation fields v.items)) is_site.lenient
 
-  no_options : (b : Bool) → (b && false) ≡ false
-  no_options true = refl
-  no_options false = refl
-
-  never : (b : Bool) (reason : Reason) → b ≡ true → b ≡ false → reason ≡ Admitted
-  never b reason t f = absurd (cc (t, f))
-
   admitted : (present : ℕ) (reason : Reason) → applies present file asked reason ≡ true → reason ≡ Admitted
-  admitted present InvalidHost t = never _ InvalidHost t (ap not host)
-  admitted present Misdirected t = never _ Misdirected t own_host
-  admitted present Preflight t = never _ Preflight t (no_options (is_some site.cors))
-  admitted present Denied t = never _ Denied t refl
-  admitted present UnknownMethod t = never _ UnknownMethod t refl
-  admitted present MethodNotAllowed t = never _ MethodNotAllowed t (ap not is_site.has_rule)
-  admitted present Options t = never _ Options t refl
-  admitted present UnmetExpectation t = never _ UnmetExpectation t (ap not expects)
-  admitted present PartialContent t = never _ PartialContent t refl
-  admitted present Moved t = never _ Moved t refl
-  admitted present Gone t = never _ Gone t refl
-  admitted present NotFound t = never _ NotFound t refl
-  admitted present LengthRequired t = never _ LengthRequired t (no_options site.needs_length)
-  admitted present ContentTooLarge t = never _ ContentTooLarge t (fits_none site.limit)
-  admitted present UnsupportedMediaType t = never _ UnsupportedMediaType t refl
-  admitted present UnsupportedCoding t = never _ UnsupportedCoding t refl
-  admitted present NotAcceptable t = never _ NotAcceptable t acceptable
-  admitted present PreconditionRequired t = never _ PreconditionRequired t refl
-  admitted present Admitted t = refl
+  admitted present reason t =
+      let accepts = acceptable in grind (arith, reason, is_site.has_rule, fits_none site.limit)
 
   -- ---- the answer
 
   -- the answer sends all of the file
-  record IsWhole (own : File) (why : Reason) (code : Option ℕ) (sent : Sends) : Type 0 where
-    plan : Plan
+  record IsWhole (why : Reason) (code : Option ℕ) (sent : Sends) : Type 0 where
     admits : why ≡ Admitted
     status : code ≡ Some 200
-    sends : sent ≡ Planned (Some 0) plan
-    whole : IsWholePlan own plan
+    sends : sent ≡ Planned (Some 0) Full
 
   module _ (present : ℕ) (own : File) (others : List File) (all : AsksForAll site.negotiation.coding fields)
       (items : v.items ≡ representation_of present own ∷ map (representation_of present) others) where
@@ -286,54 +193,37 @@ module _ (site : Resource) (is_site : IsReadable site) (v : Vec Representation)
 
     planned : (status : Option ℕ) (sent : Sends) (response : Option Planning)
         → IsAnswered present get fields (current_of present own) mine.content site.boundary response
-        → status ≡ status_sent response → sent ≡ is_sent (Some 0) response → IsWhole own Admitted status sent
+        → status ≡ status_sent response → sent ≡ is_sent (Some 0) response → IsWhole Admitted status sent
     planned status sent None h same_status same_sent =
         absurd (same site.negotiation.coding present fields own all None h)
     planned status sent (Some response) h same_status same_sent =
-        let plan = h.plan in
-        record {
-          plan = response.plan;
-          admits = refl;
-          status = same_status
-              ∙ ap Some (h.status ∙ (same site.negotiation.coding present fields own all (Some response.plan) plan).0);
-          sends = same_sent;
-          whole = whole_plan site.negotiation.coding present fields own all response.plan plan;
-        }
+        let ok = (same site.negotiation.coding present fields own all (Some response.plan) h.plan).0 in
+        let is = full_by response.plan ok in
+        record { admits = refl; status = same_status ∙ ap Some (h.status ∙ ok); sends = same_sent ∙ rw is refl }
 
     goes_whole : (status : Option ℕ) (sent : Sends) (given : List Field)
-        → Goes present file asked status sent given → IsWhole own Admitted status sent
+        → Goes present file asked status sent given → IsWhole Admitted status sent
     goes_whole status sent given h =
         let place = first_selected h.place h.selected in
         let goes : GoesOn present file asked (Some 0) (Some mine) status sent given = subst
         (λ (xs : List Representation). GoesOn present file asked (Some 0) (slice_get xs 0) status sent given) items
-        (subst
-        (λ (at : Option ℕ). GoesOn present file asked at (at_place v.items at) status sent given) place h.goes) in
+        (rw place at h.goes) in
         planned status sent goes.response goes.answered goes.has_status goes.sends
 
     answer_whole : (answer : Answer) → IsAnswer present file asked answer
-        → IsWhole own answer.reason answer.status answer.sends
+        → IsWhole answer.reason answer.status answer.sends
     answer_whole answer h =
         let reason = admitted present answer.reason h.first.is in
-        let gives : GivesIf true present file asked Admitted answer.status answer.sends h.own =
-        subst (λ (r : Reason). GivesIf (is_admitted r) present file asked r answer.status answer.sends h.own) reason
-        h.gives in
-        let whole = goes_whole answer.status answer.sends h.own gives in
-        record {
-          plan = whole.plan;
-          admits = reason;
-          status = whole.status;
-          sends = whole.sends;
-          whole = whole.whole;
-        }
+        rw reason (goes_whole answer.status answer.sends h.own (rw reason at h.gives))
 
-    decided_whole : (by : List ℕ) (files : List File) (answer : Answer) → Decides present by files file asked answer
-        → IsWhole own answer.reason answer.status answer.sends
-    decided_whole by files answer x = elim x [
-      | inl h ↦ answer_whole answer h.1
+    -- no answer is that to a HEAD
+    decided : (by : List ℕ) (files : List File) (answer : Answer) → Decides present by files file asked answer
+        → IsAnswer present file asked answer
+    decided by files answer x = elim x [
+      | inl h ↦ h.1
       | inr h ↦
           let whole = answer_whole h.0 h.2 in
-          let one = ap sends_several whole.sends ∙ whole.whole.one in
-          absurd (h.1 (λ several. absurd (cc (one, several))))
+          let one = ap sends_several whole.sends in absurd (h.1 (λ several. absurd (cc (one, several))))
     ]
 
     -- ---- an answer that does
@@ -355,12 +245,7 @@ module _ (site : Resource) (is_site : IsReadable site) (v : Vec Representation)
 
     module _ (cors : site.cors ≡ None) (coding : site.negotiation.coding ≡ false) where
       no_vary : vary_lines file Admitted ≡ []
-      no_vary = ap
-          (λ (b : Bool). line_if b (codes "accept") ++ line_if site.negotiation.language (codes "accept-language")
-          ++ line_if site.negotiation.coding (codes "accept-encoding")) is_site.media_type
-          ∙ ap (λ (b : Bool). line_if b (codes "accept-language")
-          ++ line_if site.negotiation.coding (codes "accept-encoding")) is_site.language
-          ∙ ap (λ (b : Bool). line_if b (codes "accept-encoding")) coding
+      no_vary = simp (is_site.media_type, is_site.language, coding)
 
       given : (sent : Vec Encoded) × (fields_of sent.items ≡ whole_fields present own)
       given = made (whole_fields present own)
@@ -402,47 +287,56 @@ module _ (site : Resource) (is_site : IsReadable site) (v : Vec Representation)
         fields = given.1 ∙ sym (ap (λ (l : List Line). (whole_fields present own ++ vary_fields l) ++ []) no_vary);
       }
 
+      fields_are : (answer : Answer) → IsAnswer present file asked answer
+          → fields_of answer.fields.items ≡ whole_fields present own
+      fields_are answer h = (one_answer present file asked answer all_answer h all_answers).fields ∙ given.1
+
+    abbrev HasFields : Answer → Type 0
+    HasFields answer = site.cors ≡ None → site.negotiation.coding ≡ false
+        → fields_of answer.fields.items ≡ whole_fields present own
+
+    decided_whole : (by : List ℕ) (files : List File) (answer : Answer) → Decides present by files file asked answer
+        → IsWhole answer.reason answer.status answer.sends × HasFields answer
+    decided_whole by files answer x =
+        let h = decided by files answer x in (answer_whole answer h, λ cors coding. fields_are cors coding answer h)
+
 -- ---- the response
 
 -- 200, with all of the source
-record HasAll (own : Source) (response : Response) (source : Option Source) : Type 0 where
-  status : response.status ≡ 200
-  pieces : response.pieces.items ≡ all_of own
-  opens : source ≡ Some own
+pub record HasAll (own : Source) (response : Response) (source : Option Source) : Type 0 where
+  pub status : response.status ≡ 200
+  pub pieces : response.pieces.items ≡ all_of own
+  pub opens : source ≡ Some own
 
 -- of a file in memory its content is sent
-all_sent : (own : Source) (source : Option Source) (response : Response) (kept : Kept) (sent : List ℕ)
+pub all_sent : (own : Source) (source : Option Source) (response : Response) (kept : Kept) (sent : List ℕ)
     → HasAll own response source → own ≡ InMemory kept → AreSent (gives_of source) response.pieces.items sent
     → sent ≡ kept.content
-all_sent own source response kept sent has memory h = sent_whole kept sent
-    (subst (λ (s : Source). AreSent (gives_of (Some s)) (all_of s) sent) memory
-    (subst (λ (s : Option Source). AreSent (gives_of s) (all_of own) sent) has.opens
-    (subst (λ (l : List Piece). AreSent (gives_of source) l sent) has.pieces h)))
+all_sent own source response kept sent has memory h = sent_whole kept sent (rw (has.opens, has.pieces, memory) at h)
 
-found_entry : (negotiates : Bool) (look : List ℕ → Entry) (request : Request (List ℕ)) (named : List ℕ) (entry : Entry)
-    (found : Found) → Names (uri_path (head_of request).uri) (Some named) → look named ≡ entry
+pub found_entry : (negotiates : Bool) (look : List ℕ → Entry) (request : Request (List ℕ)) (named : List ℕ)
+    (entry : Entry) (found : Found) → Names (uri_path (head_of request).uri) (Some named) → look named ≡ entry
     → LeadsTo negotiates (λ path entry. entry ≡ look path) (head_of request).uri found
     → FindsEntry negotiates (λ path entry. entry ≡ look path) (head_of request).uri named entry found
 found_entry negotiates look request named entry found names stands x = elim x [
   | inl h ↦
       let same : h.0 ≡ named = h.1.is_named ∙ sym names.is_named in
-      let is : h.2.0 ≡ entry = h.2.1 ∙ ap look same ∙ stands in
-      subst (λ (p : List ℕ). FindsEntry negotiates (λ path e. e ≡ look path) (head_of request).uri p entry found)
-      same (subst
-      (λ (e : Entry). FindsEntry negotiates (λ path o. o ≡ look path) (head_of request).uri h.0 e found) is h.2.2)
+      let is : h.2.0 ≡ entry = h.2.1 ∙ ap look same ∙ stands in rw (same, is) at h.2.2
   | inr h ↦ absurd (h.0 named names)
 ]
 
 module _ (now : Option ℕ) (left : ℕ) (site : Site) (divider : List ℕ) (look : List ℕ → Entry)
     (request : Request (List ℕ)) (response : Response) (source : Option Source) (asked : Asked) where
-  -- all of the first content is sent, and it exists
-  get_has_all : IsSite divider site.resource → Asks request asked
+  -- All of the first content is sent, and it exists. Where nothing is negotiated or shared, the fields are its own.
+  pub get_has_all : IsSite divider site.resource → Asks request asked
       → has_host asked.protocol (asked.fields (codes "host")) ≡ true → is_misdirected site.resource asked ≡ false
       → has_known_expectation (asked.fields (codes "expect")) ≡ true → (head_of request).method ≡ get
       → AsksForAll site.resource.negotiation.coding (lines_at (head_of request).headers)
       → (x : IsAnswerAt now left site (λ path entry. entry ≡ look path) request response source)
       → (own : File) (others : List File) → x.found.state ≡ Current → x.found.files.items ≡ own ∷ others
-      → HasAll own.source response source
+      → HasAll own.source response source × (site.resource.cors ≡ None → site.resource.negotiation.coding ≡ false
+      → lines_of response ≡ trimmed_lines ((first_fields now left ++ cache_fields site.cache_control)
+      ++ headers_of (whole_fields (clock now x.found.files.items) own)))
   get_has_all is_site asks host own_host expects method all x own others current contents =
       let present : ℕ = clock now x.found.files.items in
       let by : List ℕ = string_bytes site.divider in
@@ -458,24 +352,15 @@ module _ (now : Option ℕ) (left : ℕ) (site : Site) (divider : List ℕ) (loo
       let items = described.are ∙ ap (map (representation_of present)) contents in
       let whole = decided_whole site.resource (readable divider site.resource is_site) described.representations
       asked.protocol asked.authority asked.fields host own_host expects present own others
-      (subst (λ (f : LineMap). AsksForAll site.resource.negotiation.coding f) (sym asks.2.fields) all) items by
-      x.found.files.items x.answer (subst (λ (r : Resource).
-      Decides present by x.found.files.items r (reading asked.protocol asked.authority asked.fields) x.answer) resource
-      (subst (λ (q : Asked). Decides present by x.found.files.items x.resource q x.answer) reads x.decides)) in
-      let carries = x.carries in
-      let status = ap (λ (r : Reason). status_for x.found.status r x.answer.status) whole.admits
-      ∙ ap (λ (s : Option ℕ). status_for x.found.status Admitted s) whole.status in
-      record {
-        status = carries.status ∙ status;
-        pieces = carries.pieces
-            ∙ ap (pieces_for by site.pages.items x.found.files.items
-            (status_for x.found.status x.answer.reason x.answer.status)) whole.sends
-            ∙ ap (λ (l : List File). pieces_of by (slice_get l 0) whole.plan) contents
-            ∙ whole.whole.pieces by;
-        opens = x.opens
-            ∙ ap (source_sent x.found.files.items) whole.sends
-            ∙ ap (λ (l : List File). source_of (slice_get l 0)) contents;
-      }
+      (rw asks.2.fields all) items by x.found.files.items x.answer (rw (reads, resource) at x.decides) in
+      let is = whole.0 in (
+        record {
+          status = x.carries.status ∙ simp (is.admits, is.status);
+          pieces = x.carries.pieces ∙ simp (is.sends, contents);
+          opens = x.opens ∙ simp (is.sends, contents);
+        },
+        λ cors coding. x.carries.headers ∙ simp (is.sends, cors, whole.1 cors coding, append-nil),
+      )
 
 pub get_whole : (now : Option ℕ) (left : ℕ) (site : Site) (divider : List ℕ) (look : List ℕ → Entry)
     (request : Request (List ℕ)) (named : List ℕ) (file : File) (response : Response) (source : Option Source)
@@ -495,8 +380,8 @@ get_whole now left site divider look request named file response source asked is
     x.found.files.items finds.2 in
     let has = get_has_all now left site divider look request response source asked is_site asks host own_host expects
     method all x contents.0 contents.1 finds.0 contents.2 in (
-      has.status,
-      λ kept sent memory. all_sent contents.0.source source response kept sent has (contents.3 ∙ memory),
+      has.0.status,
+      λ kept sent memory. all_sent contents.0.source source response kept sent has.0 (contents.3 ∙ memory),
     )
 
 has_listing : (path : List ℕ) (listing : Listing) (found : Found) → FindsListing path listing found
@@ -521,8 +406,8 @@ get_listing now left site divider look request named listing response source ask
     let lists = has_listing (uri_path (head_of request).uri) listing x.found finds.1 slash in
     let has = get_has_all now left site divider look request response source asked is_site asks host own_host expects
     method all x (listed_file listing) [] lists.state lists.files in (
-      has.status,
-      λ sent h. all_sent (InMemory listing.page) source response listing.page sent has refl h ∙ listing.is_page,
+      has.0.status,
+      λ sent h. all_sent (InMemory listing.page) source response listing.page sent has.0 refl h ∙ listing.is_page,
     )
 
 -- ---- the response that is made at once

@@ -14,11 +14,14 @@ use std::io::{Read, Write};
 /// Reads requests, answers them from a store and writes the responses, until the connection is done.
 /// The keys are for the header maps, whose names the other end chooses.
 ///
-/// What is written is, request by request, a response that `IsAnswer` says, with the bytes of the file
-/// that was opened for it. A file is read while it is sent. If it ends before its length, or reading it
-/// fails, the connection ends there, with an error, and so it does when out of memory. Each whole request
-/// is answered before more input is awaited, unless the connection closes, and the input ends only where that
-/// of the reader does.
+/// What is written is, request by request, a response that `IsAnswer` says. Of a file in memory exactly the
+/// bytes of its ranges are sent; of one that is read while it is sent, as many as the response says, but no
+/// contract says which. Where the result is an error, the last response may be cut off. Each whole request is
+/// answered before more input is awaited, unless the connection closes, and the input ends only where that of
+/// the reader does.
+///
+/// The connection ends with an error if a file ends before its length, if reading or writing fails, and when
+/// out of memory. That it does so is not proved.
 pub fn serve_store<S: FileStore, R: Read, W: Write>(
     keys: RandomState,
     config: Config,

@@ -5,14 +5,8 @@ unfoldable pub use Fields.*
 -- ==== What a request that is sent again has in common with the first, at another time.
 
 abbrev reading : Protocol → Option Line → List ℕ → LineMap → Asked
-reading protocol authority method fields = record {
-  protocol = protocol;
-  method = method;
-  authority = authority;
-  content = Absent;
-  fields = fields;
-  denied = None;
-}
+reading p authority method fields =
+    record { protocol = p; method = method; authority = authority; content = Absent; fields = fields; denied = None }
 
 missing_as_get : (s : State) (rules : List MethodRule)
     → is_missing s rules (rule_for rules (codes "HEAD")) (codes "HEAD")
@@ -39,8 +33,7 @@ module _ {A B : Type 0} (f : A → ℕ) (g : B → ℕ) where
   picks_across [] ys e len choice h = grind (arith, choice)
   picks_across (x ∷ xs) ys e len choice h =
       let at : (k : ℕ) (y : B) → k < length (x ∷ xs) → f (get_or (x ∷ xs) k x) ≡ g (get_or ys k y) =
-      λ k y low. score_at (x ∷ xs) ys e len k x y low in
-      grind (arith, choice)
+      λ k y low. score_at (x ∷ xs) ys e len k x y low in grind (arith, choice)
 
 -- a choice is at the same place in lists of one length
 place_alike : (s : State) (xs ys : List Representation) → length xs ≡ length ys → (choice : Option ℕ)
@@ -70,9 +63,7 @@ tag_lines target = lines_sent (λ (tag : FieldValue). tag.bytes) (etag_of target
 
 labels_at : (fs gs : List File) (place : Option ℕ) → map label_of fs ≡ map label_of gs
     → option_map label_of (file_at fs place) ≡ option_map label_of (file_at gs place)
-labels_at fs gs None labels = refl
-labels_at fs gs (Some k) labels =
-    sym (slice_get-map label_of fs k) ∙ ap (λ (l : List Label). slice_get l k) labels ∙ slice_get-map label_of gs k
+labels_at fs gs place labels = grind (arith, place, slice_get-map label_of)
 
 -- where a response has a tag, there is a file, and where another has the same label, too
 two_files : (s : State) (present : ℕ) (tag : Line) (p q : Option File) → option_map label_of p ≡ option_map label_of q
@@ -144,14 +135,11 @@ module _ (present : ℕ) (resource : Resource) (asked : Asked) (read : IsGetOrHe
       → StateIsKept present asked.fields target × (tag_lines target ≡ tag ∷ [])
   tag_of_plan target len limits plan h e = grind (arith, plan, never_unconditional)
 
-  admitted_is : (reason : Reason) → is_admitted reason ≡ true → reason ≡ Admitted
-  admitted_is reason is = grind (arith, reason)
-
   tagged_by : (admitted : Bool) (reason : Reason) (status : Option ℕ) (sent : Sends) (own : List Field)
       → is_admitted reason ≡ admitted → GivesIf admitted present resource asked reason status sent own
       → given_under true resource sent ≡ tag ∷ [] → IsTagged reason
   tagged_by true reason status sent own is g told = record {
-    admits = admitted_is reason is;
+    admits = grind (arith, reason);
     place = g.place;
     selected = g.selected;
     kept = both.0;
@@ -160,9 +148,7 @@ module _ (present : ℕ) (resource : Resource) (asked : Asked) (read : IsGetOrHe
     where
       both : StateIsKept present asked.fields (seen_at resource g.place)
           × (tag_lines (seen_at resource g.place) ≡ tag ∷ [])
-      both =
-          let answered = g.goes.answered in
-          let sends = g.goes.sends in grind (arith, g.goes.response, tag_of_plan)
+      both = let goes = g.goes in grind (arith, goes.response, tag_of_plan)
   tagged_by false reason status sent own is g told = grind (arith, none_stopped)
 
 -- at another time the state is kept for the same fields
@@ -171,21 +157,16 @@ kept_again : (now later : ℕ) (f g : LineMap) (v w : Validators) → v.etag ≡
     → StateIsKept now f (Current v) → StateIsKept later g (Current w)
 kept_again now later f g v w tag same none h = grind arith
 
-has_line : (lines : List Line) (tag : Line) → lines ≡ tag ∷ [] → HasLine lines
-has_line lines tag are = rw are (omega arith)
-
 not_modified_by : (present : ℕ) (g : LineMap) (v : Validators) (method : List ℕ) (tag : Line) → IsGetOrHead method
     → StateIsKept present g (Current v) → g (codes "if-none-match") ≡ tag ∷ []
     → IfNoneMatchIsFalse (λ (name : List ℕ). tag ∷ []) (Current v)
     → Answers present g (Current v) method precondition.NotModified
-not_modified_by present g v method tag read kept line named =
-    let has = has_line (g (codes "if-none-match")) tag line in grind (arith, never_unconditional)
+not_modified_by present g v method tag read kept line named = grind (arith, never_unconditional)
 
 never_failed : (present : ℕ) (g : LineMap) (v : Validators) (method : List ℕ) (tag : Line) → IsGetOrHead method
     → g (codes "if-match") ≡ tag ∷ [] → IfMatchIsTrue (λ (name : List ℕ). tag ∷ []) (Current v)
     → ¬ (Answers present g (Current v) method precondition.Failed)
-never_failed present g v method tag read line named failed =
-    let has = has_line (g (codes "if-match")) tag line in grind (arith, never_unconditional)
+never_failed present g v method tag read line named failed = grind (arith, never_unconditional)
 
 code_plan : (plan : Plan) → (status_of plan ≡ 304 → plan ≡ NotModified) × (status_of plan ≡ 412 → plan ≡ Failed)
 code_plan plan = grind (arith, plan)
@@ -362,8 +343,7 @@ module _ {now later : Option ℕ} {left more : ℕ} {site : Site} {look other : 
   unacceptable_same : is_unacceptable before (asks (codes "GET") f) ≡ is_unacceptable after (asks (codes "GET") g)
   unfolding is_unacceptable
   unacceptable_same =
-      let none = ap (list_all (λ k. k == 0)) scores in
-      grind (arith, list_all-map, same_length, none)
+      let none = ap (list_all (λ k. k == 0)) scores in grind (arith, list_all-map, same_length, none)
 
   -- what doesn't keep the first from being performed doesn't keep the second from it
   still : (reason : Reason) → applies (present x) before (asks (codes "GET") f) reason ≡ false

@@ -51,8 +51,7 @@ side_lines : (hs : List Header) → are_side hs ≡ true → AreSide hs
 side_lines [] e = record { sound = refl; unnamed = λ name marked. refl }
 side_lines (h ∷ hs) e =
     let both = and_parts (is_side h.0) (are_side hs) e in
-    let rest = side_lines hs both.1 in
-    record {
+    let rest = side_lines hs both.1 in record {
       sound = and_from (is_sound_line h) _ (side_sound h both.0) rest.sound;
       unnamed = λ name marked. simp (not_side name h.0 both.0 marked, rest.unnamed name marked);
     }
@@ -60,9 +59,6 @@ side_lines (h ∷ hs) e =
 sent-cons : (b : Bool) (field : Field) (fields : List Field)
     → headers_sent b (field ∷ fields) ≡ lines_unless (b && is_named field.0 fields) field ++ headers_sent b fields
 sent-cons b field fields = grind arith
-
-sent-nil : (b : Bool) → headers_sent b [] ≡ []
-sent-nil b = grind arith
 
 one_sound : (same other free bare more : Bool) → (same || (other && (free || (bare && more)))) ≡ true
     → ((same || (other && (free || (bare && true)))) ≡ true) × ((same || (other && (free || more))) ≡ true)
@@ -75,7 +71,7 @@ sound_unless b name (line ∷ lines) t = grind (arith, b, sound_unless b name li
 
 sent_sound : (b : Bool) (fields : List Field) → list_all is_sound fields ≡ true
     → list_all is_sound_line (headers_sent b fields) ≡ true
-sent_sound b [] t = ap (list_all is_sound_line) (sent-nil b)
+sent_sound b [] t = grind (arith, b)
 sent_sound b (field ∷ fields) t =
     let both = and_parts (is_sound field) (list_all is_sound fields) t in
     rw (sent-cons b field fields, list_all-append)
