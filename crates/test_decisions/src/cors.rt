@@ -2,7 +2,6 @@
 //!
 //! Rules are fields: `(origins)`, `(methods)`, `(names)` and `(exposed)` list values, `(any)` names those of the four
 //! that are any, or `names-and-authorization`, and `(credentials)` is `true` or left out. `(max-age)` is a number.
-use crate::store::method;
 use decide_cors::{
     Allowed, AllowedNames, CorsAnswer, CorsKind, CorsPolicy, CorsRules, RequestHead, RulesError,
 };
@@ -10,7 +9,7 @@ use decide_negotiation::{Accept, AcceptEncoding, AcceptLanguage, varies_by};
 use headers::{HeaderMap, HeaderName, HeaderValue, Origin, decode_values, set_all};
 use http::Method;
 use std::alloc::Global;
-use test_rows::{Arguments, Calls, CaseAnswer, CaseFailure};
+use test_rows::{Calls, Case, CaseFailure, Made};
 
 // A value of a list.
 trait Listed: Sized + Drop {
@@ -63,96 +62,84 @@ fn allowed_names(alloc: Global, rules: &HeaderMap) -> Result<AllowedNames, CaseF
     if is_any(rules, "names-and-authorization") {
         return Ok(AllowedNames::AnyAndAuthorization);
     }
-    let names = allowed::<HeaderName>(alloc, rules, "names")?;
-    Ok(AllowedNames::from(names))
+    Ok(AllowedNames::from(allowed::<HeaderName>(alloc, rules, "names")?))
 }
 
-fn max_age(alloc: Global, rules: &HeaderMap) -> Result<Option<u64>, CaseFailure> {
+fn max_age(rules: &HeaderMap) -> Result<Option<u64>, CaseFailure> {
     let Some(line) = rules.get("max-age") else {
         return Ok(None);
     };
-    let text = line.to_str().map_err(|_| CaseFailure::NoCall)?;
-    Ok(Some(Arguments::new(alloc, text).number()?))
+    match line.to_str() {
+        Ok(text) => Ok(Some(text.parse()?)),
+        Err(_) => Err(CaseFailure::NoCall),
+    }
 }
 
-// The rules of the fields that are left.
-fn read_rules(arguments: &mut Arguments<'_>) -> Result<CorsRules, CaseFailure> {
-    let alloc = arguments.alloc();
-    let rules = arguments.map()?;
-    Ok(CorsRules {
+// The policy of the fields that are left.
+fn read_policy(case: &mut Case<'_>) -> Result<Result<CorsPolicy, RulesError>, CaseFailure> {
+    let alloc = case.alloc();
+    let rules = case.map();
+    let rules = CorsRules {
         origins: allowed(alloc, &rules, "origins")?,
         methods: allowed(alloc, &rules, "methods")?,
         names: allowed_names(alloc, &rules)?,
         exposed: allowed(alloc, &rules, "exposed")?,
         credentials: rules.contains_key("credentials"),
-        max_age: max_age(alloc, &rules)?,
-    })
-}
-
-fn kind_word(kind: CorsKind) -> &'static str {
-    match kind {
-        CorsKind::Preflight => "preflight",
-        CorsKind::Plain => "plain",
-        CorsKind::NoOrigin => "no-origin",
+        max_age: max_age(&rules)?,
+    };
+    match CorsPolicy::new(alloc, rules) {
+        Err(RulesError::Memory) => Err(CaseFailure::Memory),
+        made => Ok(made),
     }
 }
 
 // `CorsPolicy.new RULES`: `made`, or why the rules are no policy.
-fn make_new(arguments: &mut Arguments<'_>, answer: &mut CaseAnswer) -> Result<(), CaseFailure> {
-    let rules = read_rules(arguments)?;
-    match CorsPolicy::new(arguments.alloc(), rules) {
-        Ok(_) => Ok(answer.word("made")?),
-        Err(RulesError::Memory) => Err(CaseFailure::Memory),
-        Err(error) => Ok(answer.word(format_args!("{error:?}"))?),
-    }
-}
-
-fn read_policy(arguments: &mut Arguments<'_>) -> Result<CorsPolicy, CaseFailure> {
-    let rules = read_rules(arguments)?;
-    match CorsPolicy::new(arguments.alloc(), rules) {
-        Ok(policy) => Ok(policy),
-        Err(RulesError::Memory) => Err(CaseFailure::Memory),
-        Err(_) => Err(CaseFailure::Refused),
+fn make_new(case: &mut Case<'_>) -> Made {
+    match read_policy(case)? {
+        Ok(_) => case.say("made"),
+        Err(error) => case.say(format_args!("{error:?}")),
     }
 }
 
 // `CorsPolicy.answer RULES (/) METHOD REQUEST (/) RESPONSE`: what the request is, whether it is allowed, and the fields
 // of the response once those of the answer are set.
-fn make_answer(arguments: &mut Arguments<'_>, answer: &mut CaseAnswer) -> Result<(), CaseFailure> {
-    let policy = read_policy(arguments)?;
-    let method = method(arguments)?;
-    let request = arguments.map()?;
+fn make_answer(case: &mut Case<'_>) -> Made {
+    let Ok(policy) = read_policy(case)? else {
+        return Err(CaseFailure::Refused);
+    };
+    let (method, request, mut response) = (case.method(), case.map(), case.map());
     let request = RequestHead {
         method: &method,
         fields: &request,
     };
-    let mut response = arguments.map()?;
     let CorsAnswer {
         kind,
         is_allowed,
         fields,
-    } = policy.answer(answer.alloc(), &request, &response)?;
-    set_all(&mut response, fields).map_err(|_| CaseFailure::Memory)?;
-    answer.word(format_args!("{} {is_allowed}", kind_word(kind)))?;
-    answer.map(&response)
+    } = policy.answer(case.alloc(), &request, &response)?;
+    set_all(&mut response, fields)?;
+    case.add(match kind {
+        CorsKind::Preflight => "preflight",
+        CorsKind::Plain => "plain",
+        CorsKind::NoOrigin => "no-origin",
+    });
+    case.add(is_allowed);
+    case.say_map(&response)
 }
 
 /// The calls of a policy, and what a negotiation varies by.
 pub struct Cors;
 
 impl Calls for Cors {
-    fn make(
-        name: &str,
-        arguments: &mut Arguments<'_>,
-        answer: &mut CaseAnswer,
-    ) -> Result<(), CaseFailure> {
+    fn make(name: &str, case: &mut Case<'_>) -> Made {
         match name {
-            "CorsPolicy.new" => make_new(arguments, answer),
-            "CorsPolicy.answer" => make_answer(arguments, answer),
-            "accept.varies" => answer.line(&varies_by::<Accept>()),
-            "encoding.varies" => answer.line(&varies_by::<AcceptEncoding>()),
-            "language.varies" => answer.line(&varies_by::<AcceptLanguage>()),
-            _ => Err(CaseFailure::NoCall),
+            "CorsPolicy.new" => return make_new(case),
+            "CorsPolicy.answer" => return make_answer(case),
+            "accept.varies" => case.add_line(&varies_by::<Accept>()),
+            "encoding.varies" => case.add_line(&varies_by::<AcceptEncoding>()),
+            "language.varies" => case.add_line(&varies_by::<AcceptLanguage>()),
+            _ => return Err(CaseFailure::NoCall),
         }
+        Ok(())
     }
 }

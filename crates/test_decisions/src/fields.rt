@@ -6,161 +6,140 @@ use rfc_fields::{
     delta_seconds, find_directive, is_clear_of, number, read_directive, read_value, skip_comment,
     weight,
 };
-use std::alloc::AllocError;
-use test_rows::{Arguments, Calls, CaseAnswer, CaseFailure};
+use test_rows::{Calls, Case, CaseFailure, Made};
 
-/// The calls of the grammars.
-pub struct FieldCases;
+const MALFORMED: &str = "(malformed)";
 
-// All words that are left, as the lines of a field, whichever it is.
-fn read_field(arguments: &mut Arguments<'_>) -> Result<HeaderMap, CaseFailure> {
-    let mut map = HeaderMap::new(arguments.alloc());
-    for line in arguments.lines()? {
-        map.append(CACHE_CONTROL, line)?;
-    }
-    Ok(map)
-}
-
-fn add_value(value: &Value<'_>, answer: &mut CaseAnswer) -> Result<(), AllocError> {
-    answer.word(match value {
-        Value::Token(_) => "token",
-        Value::Quoted(_) => "quoted",
-    })?;
-    let octets: Vec<u8> = value.octets().collect(answer.alloc())?;
-    answer.bytes(&octets)
-}
-
-fn add_directive(
-    directive: Result<Option<Directive<'_>>, Malformed>,
-    answer: &mut CaseAnswer,
-) -> Result<(), CaseFailure> {
-    match directive {
-        Ok(Some(directive)) => {
-            answer.bytes(directive.name)?;
-            if let Some(value) = directive.argument {
-                add_value(&value, answer)?;
-            }
-        }
-        Ok(None) => answer.none()?,
-        Err(Malformed) => answer.word("(malformed)")?,
-    }
-    Ok(())
-}
-
-fn add_member(
-    member: Result<&[u8], Malformed>,
-    answer: &mut CaseAnswer,
-) -> Result<(), CaseFailure> {
-    match member {
-        Ok(text) => Ok(answer.bytes(text)?),
-        Err(Malformed) => Ok(answer.word("(malformed)")?),
-    }
-}
-
-fn add_members(members: Members<'_>, answer: &mut CaseAnswer) -> Result<(), CaseFailure> {
-    for member in members {
-        add_member(member, answer)?;
-    }
-    add_none(answer)
-}
-
-// An answer that is empty so far is none.
-fn add_none(answer: &mut CaseAnswer) -> Result<(), CaseFailure> {
-    if answer.as_str().is_empty() {
-        answer.none()?;
-    }
-    Ok(())
-}
-
-// Calls with a field: LINE .., after a name or a token.
-fn make_field_call(
-    name: &str,
-    arguments: &mut Arguments<'_>,
-    answer: &mut CaseAnswer,
-) -> Result<(), CaseFailure> {
-    let word = match name {
-        "field" | "tokens" => Vec::new(arguments.alloc()),
-        _ => arguments.bytes()?,
+fn say_directive(found: Result<Option<Directive<'_>>, Malformed>, case: &mut Case<'_>) -> Made {
+    let directive = match found {
+        Ok(Some(directive)) => directive,
+        Ok(None) => return case.say("(none)"),
+        Err(Malformed) => return case.say(MALFORMED),
     };
-    let map = read_field(arguments)?;
-    let lines = map.get_all(CACHE_CONTROL);
-    match name {
-        // the members of the field
-        "field" => {
-            for member in FieldMembers::new(&lines) {
-                add_member(member, answer)?;
-            }
-            add_none(answer)
+    case.add_bytes(directive.name);
+    if let Some(value) = directive.argument {
+        case.add(match value {
+            Value::Token(_) => "token",
+            Value::Quoted(_) => "quoted",
+        });
+        let octets: Vec<u8> = value.octets().collect(case.alloc())?;
+        case.add_bytes(&octets);
+    }
+    Ok(())
+}
+
+fn say_member(member: Result<&[u8], Malformed>, case: &mut Case<'_>) -> Made {
+    match member {
+        Ok(text) => case.add_bytes(text),
+        Err(Malformed) => case.add(MALFORMED),
+    }
+    Ok(())
+}
+
+// Members, or `(none)` if the answer is empty then.
+fn say_members(members: Members<'_>, case: &mut Case<'_>) -> Made {
+    for member in members {
+        say_member(member, case)?;
+    }
+    say_none(case)
+}
+
+fn say_none(case: &mut Case<'_>) -> Made {
+    if case.as_str().is_empty() {
+        case.add_none();
+    }
+    Ok(())
+}
+
+/// Calls with a field, whichever it is: LINE .., after a name or a token.
+pub struct OfFields;
+
+impl Calls for OfFields {
+    fn make(name: &str, case: &mut Case<'_>) -> Made {
+        let word = match name {
+            "field" | "tokens" => Vec::new(case.alloc()),
+            "find" | "clear" | "contains" => case.bytes(),
+            _ => return Err(CaseFailure::NoCall),
+        };
+        let mut map = HeaderMap::new(case.alloc());
+        for line in case.lines() {
+            map.append(CACHE_CONTROL, line)?;
         }
-        // the first directive of the name
-        "find" => add_directive(find_directive(&lines, &word), answer),
-        // whether the field surely lacks the directive of the name
-        "clear" => Ok(answer.word(is_clear_of(&lines, &word))?),
-        // whether each member is a token
-        "tokens" => Ok(answer.word(are_tokens(&lines))?),
-        // whether some member is the token
-        _ => Ok(answer.word(contains_token(&lines, &word))?),
+        let lines = map.get_all(CACHE_CONTROL);
+        match name {
+            // the members of the field
+            "field" => {
+                for member in FieldMembers::new(&lines) {
+                    say_member(member, case)?;
+                }
+                say_none(case)
+            }
+            // the first directive of the name
+            "find" => say_directive(find_directive(&lines, &word), case),
+            // whether the field surely lacks the directive of the name
+            "clear" => case.say(is_clear_of(&lines, &word)),
+            // whether each member is a token
+            "tokens" => case.say(are_tokens(&lines)),
+            // whether some member is the token
+            _ => case.say(contains_token(&lines, &word)),
+        }
     }
 }
 
 // ELEMENT: its value and its parameters.
-fn add_parts(element: &[u8], answer: &mut CaseAnswer) -> Result<(), CaseFailure> {
+fn say_parts(element: &[u8], case: &mut Case<'_>) -> Made {
     match Parameterized::read(element) {
         Ok(parts) => {
-            answer.bytes(parts.value)?;
-            add_members(parts.parameters, answer)
+            case.add_bytes(parts.value);
+            say_members(parts.parameters, case)
         }
-        Err(Malformed) => Ok(answer.word("(malformed)")?),
+        Err(Malformed) => case.say(MALFORMED),
     }
 }
 
 // VALUE VALUE: whether both mean the same octets.
-fn add_equal(one: &[u8], other: &[u8], answer: &mut CaseAnswer) -> Result<(), CaseFailure> {
-    match (read_value(one), read_value(other)) {
-        (Ok(one), Ok(other)) => Ok(answer.word(one.same_octets(&other))?),
-        _ => Ok(answer.word("(malformed)")?),
+fn say_equal(case: &mut Case<'_>) -> Made {
+    let (one, other) = (case.bytes(), case.bytes());
+    match (read_value(&one), read_value(&other)) {
+        (Ok(one), Ok(other)) => case.say(one.same_octets(&other)),
+        _ => case.say(MALFORMED),
     }
 }
 
-// Calls with a text.
-fn make_text_call(
-    name: &str,
-    text: &[u8],
-    arguments: &mut Arguments<'_>,
-    answer: &mut CaseAnswer,
-) -> Result<(), CaseFailure> {
-    match name {
-        // the members of a field line, and of one of entity tags
-        "members" => add_members(Members::new(text), answer),
-        "tags" => add_members(Members::of_tags(text), answer),
-        // the directive that it is
-        "directive" => add_directive(read_directive(text).map(|it| Some(it)), answer),
-        "parameters" => add_parts(text, answer),
-        "equal" => add_equal(text, &arguments.bytes()?, answer),
-        // the number, the delta-seconds, and the weight in thousandths that it is
-        "number" => Ok(answer.option(number(text))?),
-        "seconds" => Ok(answer.option(delta_seconds(text))?),
-        "weight" => Ok(answer.option(weight(text))?),
-        // what follows the comment that it begins with
-        "comment" => add_member(skip_comment(text), answer),
-        _ => Err(CaseFailure::NoCall),
-    }
-}
+/// Calls with a text.
+pub struct OfTexts;
 
-impl Calls for FieldCases {
-    fn make(
-        name: &str,
-        arguments: &mut Arguments<'_>,
-        answer: &mut CaseAnswer,
-    ) -> Result<(), CaseFailure> {
+impl Calls for OfTexts {
+    fn make(name: &str, case: &mut Case<'_>) -> Made {
         match name {
-            "field" | "find" | "clear" | "tokens" | "contains" => {
-                make_field_call(name, arguments, answer)
-            }
-            _ => {
-                let text = arguments.bytes()?;
-                make_text_call(name, &text, arguments, answer)
-            }
+            // the members of a field line, and of one of entity tags
+            "members" => say_members(Members::new(&case.bytes()), case),
+            "tags" => say_members(Members::of_tags(&case.bytes()), case),
+            // the directive that it is
+            "directive" => say_directive(read_directive(&case.bytes()).map(|it| Some(it)), case),
+            "parameters" => say_parts(&case.bytes(), case),
+            "equal" => say_equal(case),
+            // what follows the comment that it begins with
+            "comment" => say_member(skip_comment(&case.bytes()), case),
+            _ => Err(CaseFailure::NoCall),
         }
+    }
+}
+
+/// Calls with a number, delta-seconds, and a weight in thousandths.
+pub struct OfNumbers;
+
+impl Calls for OfNumbers {
+    fn make(name: &str, case: &mut Case<'_>) -> Made {
+        let text = match name {
+            "number" | "seconds" | "weight" => case.bytes(),
+            _ => return Err(CaseFailure::NoCall),
+        };
+        match name {
+            "number" => case.add_option(number(&text)),
+            "seconds" => case.add_option(delta_seconds(&text)),
+            _ => case.add_option(weight(&text)),
+        }
+        Ok(())
     }
 }

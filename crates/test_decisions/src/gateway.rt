@@ -3,121 +3,73 @@ use gateway_hops::{
     Arrival, Forwarding, NextConnection, Node, NodeName, NodePort, Obfuscated, Received, Scheme,
     forwarding_fields,
 };
-use gateway_messages::{FieldLine, Framing, Gateway, MessageHead, Pseudonym, forward_trailers};
-use headers::{Encoded, HeaderMap, HeaderName, HeaderValue};
+use gateway_messages::{Framing, Gateway, MessageHead, Pseudonym, forward_trailers};
+use headers::{HeaderMap, HeaderName};
 use http_header::CONNECTION;
-use std::alloc::AllocError;
-use test_rows::{Arguments, Calls, CaseAnswer, CaseFailure};
-
-/// The calls of a gateway.
-pub struct Gateways;
-
-// What the next word means.
-fn choose<T: Copy>(arguments: &mut Arguments<'_>, choices: &[(&str, T)]) -> Result<T, CaseFailure> {
-    let word = arguments.word()?;
-    for (name, choice) in choices {
-        if *name == word {
-            return Ok(*choice);
-        }
-    }
-    Err(CaseFailure::NoCall)
-}
-
-// The next word, as a field value, or `None` if it is `(none)`.
-fn read_value(arguments: &mut Arguments<'_>) -> Result<Option<HeaderValue>, CaseFailure> {
-    match arguments.option()? {
-        Some(text) => Ok(Some(HeaderValue::from_str(arguments.alloc(), text)?)),
-        None => Ok(None),
-    }
-}
-
-fn add_encoded(encoded: &[Encoded], answer: &mut CaseAnswer) -> Result<(), AllocError> {
-    for field in encoded {
-        answer.word(format_args!("({})", field.name.as_str()))?;
-        for line in &field.lines {
-            answer.bytes(line.as_bytes())?;
-        }
-    }
-    Ok(())
-}
+use test_rows::{Calls, Case, CaseFailure, Made};
 
 // NAME consumed|relayed|underscores|signed: a gateway that protects X-Client, and if it is signed, Signature.
-fn read_gateway(arguments: &mut Arguments<'_>) -> Result<Gateway, CaseFailure> {
-    let alloc = arguments.alloc();
-    let mut gateway = Gateway::new(alloc, Pseudonym::new(alloc, arguments.word()?)?);
-    let (consumes_credentials, passes_underscores, is_signed) = choose(
-        arguments,
-        &[
-            ("consumed", (true, false, false)),
-            ("relayed", (false, false, false)),
-            ("underscores", (true, true, false)),
-            ("signed", (true, false, true)),
-        ],
-    )?;
-    gateway.consumes_credentials = consumes_credentials;
-    gateway.passes_underscores = passes_underscores;
+fn read_gateway(case: &mut Case<'_>) -> Result<Gateway, CaseFailure> {
+    let alloc = case.alloc();
+    let mut gateway = Gateway::new(alloc, Pseudonym::new(alloc, case.word())?);
     gateway.protected.push(HeaderName::from_static("x-client"))?;
-    if is_signed {
-        gateway
+    gateway.consumes_credentials = true;
+    gateway.passes_underscores = false;
+    match case.word() {
+        "consumed" => {}
+        "relayed" => gateway.consumes_credentials = false,
+        "underscores" => gateway.passes_underscores = true,
+        "signed" => gateway
             .protected
-            .push(HeaderName::from_static("signature"))?;
+            .push(HeaderName::from_static("signature"))?,
+        _ => return Err(CaseFailure::NoCall),
     }
     Ok(gateway)
 }
 
-fn add_fields(fields: &[FieldLine], answer: &mut CaseAnswer) -> Result<(), AllocError> {
-    for field in fields {
-        answer.word(format_args!("({})", field.name.as_str()))?;
-        answer.bytes(field.value.as_bytes())?;
-    }
-    Ok(())
-}
-
 // `trailers GATEWAY FRAMING CONNECTION TRAILERS`: the trailer fields that are forwarded.
-fn call_trailers(
-    arguments: &mut Arguments<'_>,
-    answer: &mut CaseAnswer,
-) -> Result<(), CaseFailure> {
-    let gateway = read_gateway(arguments)?;
-    let framing = match arguments.word()? {
+fn call_trailers(case: &mut Case<'_>) -> Made {
+    let gateway = read_gateway(case)?;
+    let framing = match case.word() {
         "unstated" => Framing::Unstated,
         "chunked" => Framing::Chunked,
-        word => Framing::Length(word.parse().map_err(|_| CaseFailure::NoCall)?),
+        word => Framing::Length(word.parse()?),
     };
-    let mut fields = HeaderMap::new(arguments.alloc());
-    if let Some(connection) = read_value(arguments)? {
+    let mut fields = HeaderMap::new(case.alloc());
+    if let Some(connection) = case.optional_line() {
         fields.append(CONNECTION, connection)?;
     }
-    let trailers = arguments.map()?;
+    let trailers = case.map();
     let message = MessageHead {
         fields: &fields,
         framing,
     };
-    let sent = forward_trailers(answer.alloc(), &gateway, &message, &trailers)?;
-    Ok(add_fields(sent.as_slice(), answer)?)
+    for field in &forward_trailers(case.alloc(), &gateway, &message, &trailers)? {
+        case.add_name(field.name.as_str());
+        case.add_line(&field.value);
+    }
+    Ok(())
 }
 
 // `connection close|no trailers|no UPGRADE`: the fields of the connection.
-fn call_connection(
-    arguments: &mut Arguments<'_>,
-    answer: &mut CaseAnswer,
-) -> Result<(), CaseFailure> {
-    let closes = choose(arguments, &[("close", true), ("no", false)])?;
-    let accepts_trailers = choose(arguments, &[("trailers", true), ("no", false)])?;
-    let upgrade = read_value(arguments)?;
+fn call_connection(case: &mut Case<'_>) -> Made {
+    let (closes, accepts_trailers) = (case.flag("close", "no"), case.flag("trailers", "no"));
+    let upgrade = case.optional_line();
     let next = NextConnection {
         closes,
         accepts_trailers,
         upgrade: upgrade.as_ref(),
     };
-    let encoded = next.fields(answer.alloc())?;
-    Ok(add_encoded(encoded.as_slice(), answer)?)
+    case.add_encoded(&next.fields(case.alloc())?);
+    Ok(())
 }
 
 // The next two words, as a node with an address and a hidden port.
-fn read_node(arguments: &mut Arguments<'_>) -> Result<Node, CaseFailure> {
-    let address = arguments.word()?.parse().map_err(|_| CaseFailure::NoCall)?;
-    let port = Obfuscated::new(arguments.alloc(), arguments.word()?)?;
+fn read_node(case: &mut Case<'_>) -> Result<Node, CaseFailure> {
+    let Ok(address) = case.word().parse() else {
+        return Err(CaseFailure::NoCall);
+    };
+    let port = Obfuscated::new(case.alloc(), case.word())?;
     Ok(Node {
         name: NodeName::Address(address),
         port: Some(NodePort::Hidden(port)),
@@ -126,14 +78,12 @@ fn read_node(arguments: &mut Arguments<'_>) -> Result<Node, CaseFailure> {
 
 // `forwarding no forwarded ADDRESS PORT unknown (none) (none) no no`: the fields that tell who made a request, whose
 // node has a hidden port. Nothing else is known.
-fn call_forwarding(
-    arguments: &mut Arguments<'_>,
-    answer: &mut CaseAnswer,
-) -> Result<(), CaseFailure> {
-    choose(arguments, &[("no", ())])?;
-    choose(arguments, &[("forwarded", ())])?;
-    let client = read_node(arguments)?;
-    if arguments.rest() != "unknown (none) (none) no no" {
+fn call_forwarding(case: &mut Case<'_>) -> Made {
+    if !case.flag("no", "kept") || !case.flag("forwarded", "x") {
+        return Err(CaseFailure::NoCall);
+    }
+    let client = read_node(case)?;
+    if case.rest() != "unknown (none) (none) no no" {
         return Err(CaseFailure::NoCall);
     }
     let forwarding = Forwarding {
@@ -148,21 +98,20 @@ fn call_forwarding(
         scheme: Scheme::Http,
         is_trusted: false,
     };
-    let fields = HeaderMap::new(answer.alloc());
-    let encoded = forwarding_fields(answer.alloc(), forwarding, &arrival, &fields)?;
-    Ok(add_encoded(encoded.as_slice(), answer)?)
+    let fields = HeaderMap::new(case.alloc());
+    case.add_encoded(&forwarding_fields(case.alloc(), forwarding, &arrival, &fields)?);
+    Ok(())
 }
 
+/// The calls of a gateway.
+pub struct Gateways;
+
 impl Calls for Gateways {
-    fn make(
-        name: &str,
-        arguments: &mut Arguments<'_>,
-        answer: &mut CaseAnswer,
-    ) -> Result<(), CaseFailure> {
+    fn make(name: &str, case: &mut Case<'_>) -> Made {
         match name {
-            "trailers" => call_trailers(arguments, answer),
-            "connection" => call_connection(arguments, answer),
-            "forwarding" => call_forwarding(arguments, answer),
+            "trailers" => call_trailers(case),
+            "connection" => call_connection(case),
+            "forwarding" => call_forwarding(case),
             _ => Err(CaseFailure::NoCall),
         }
     }

@@ -20,8 +20,24 @@ mod resources;
 mod routes;
 mod store;
 
+use crate::cors::Cors;
+use crate::fields::{OfFields, OfNumbers, OfTexts};
+use crate::gateway::Gateways;
+use crate::handshake::Handshake;
 use crate::histories::replay_files;
+use crate::limits::WithinLimits;
+use crate::policies::{Dates, Policies};
+use crate::routes::Routing;
 use std::process::ExitCode;
+
+// The single calls.
+type Decisions = (
+    ((Policies, Dates), (WithinLimits, Routing)),
+    (
+        (Cors, Handshake),
+        (Gateways, (OfFields, (OfTexts, OfNumbers))),
+    ),
+);
 
 fn main(rt: HostRuntime) -> anyhow::Result<ExitCode> {
     replay_files(&rt)

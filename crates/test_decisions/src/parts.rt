@@ -1,44 +1,9 @@
 //! The calls of a store of parts.
-use crate::store::{
-    StoreRequest, add_fields, add_stored, method, read_came, read_limits, read_options, status,
-};
-use cache_rules::{Reception, StoredResponse};
-use cache_store::parts::{PartAnswer, PartLookup, PartStore, Recorded};
-use cache_store::{LookupTimes, Options, Store};
-use std::alloc::Global;
-use std::hash::RandomState;
-use test_rows::{Arguments, CaseAnswer, CaseFailure};
-
-/// The settings of a cache: a store without a part.
-pub fn new_parts(alloc: Global, keys: RandomState, limits: &str) -> Result<PartStore, CaseFailure> {
-    let mut arguments = Arguments::new(alloc, limits);
-    let (kind, limits) = read_limits(&mut arguments)?;
-    let options = if arguments.is_empty() {
-        Options {
-            immutable: false,
-            targets: Vec::new(alloc),
-        }
-    } else {
-        read_options(alloc, &mut arguments)?
-    };
-    Ok(PartStore::new(alloc, kind, options, limits, keys)?)
-}
-
-// A whole goes into the ordinary store.
-fn add_whole(
-    store: &mut Store,
-    target: &str,
-    whole: StoredResponse,
-    answer: &mut CaseAnswer,
-) -> Result<(), CaseFailure> {
-    answer.word("whole")?;
-    add_stored(&whole, answer)?;
-    let stored = store.store(answer.alloc(), target, whole, Reception::Complete)?;
-    if stored.is_none() {
-        answer.word("unstored")?;
-    }
-    Ok(())
-}
+use crate::store::{StoreRequest, read_came, say_stored};
+use cache_rules::Reception;
+use cache_store::parts::{PartLookup, PartStore, Recorded};
+use cache_store::{LookupTimes, Store};
+use test_rows::{Case, CaseFailure, Made};
 
 // A response, and its request: what becomes of it. A whole is stored in the ordinary store.
 fn call_record(
@@ -46,82 +11,68 @@ fn call_record(
     store: &mut Store,
     target: &str,
     reception: Reception,
-    arguments: &mut Arguments<'_>,
-    answer: &mut CaseAnswer,
-) -> Result<(), CaseFailure> {
-    let came = read_came(arguments)?;
-    match parts.record(answer.alloc(), target, came, reception)? {
-        Recorded::Unstored => Ok(answer.word("unstored")?),
-        Recorded::Stored => Ok(answer.word("stored")?),
-        Recorded::Whole(whole) => add_whole(store, target, whole, answer),
+    case: &mut Case<'_>,
+) -> Made {
+    let (came, alloc) = (read_came(case)?, case.alloc());
+    match parts.record(alloc, target, came, reception)? {
+        Recorded::Unstored => case.say("unstored"),
+        Recorded::Stored => case.say("stored"),
+        Recorded::Whole(whole) => {
+            case.add("whole");
+            say_stored(&whole, case)?;
+            if store
+                .store(alloc, target, whole, Reception::Complete)?
+                .is_none()
+            {
+                case.add("unstored");
+            }
+            Ok(())
+        }
         Recorded::Once(once) => {
-            answer.word("once")?;
-            add_stored(&once, answer)
+            case.add("once");
+            say_stored(&once, case)
         }
     }
 }
 
-// A 206: the bytes, and the fields.
-fn add_part_answer(
-    parts: &PartStore,
-    target: &str,
-    found: &PartAnswer,
-    answer: &mut CaseAnswer,
-) -> Result<(), CaseFailure> {
-    answer.word("serve")?;
-    match parts.bytes(answer.alloc(), target, found.number, &found.part) {
-        Some(bytes) => answer.bytes(bytes)?,
-        None => answer.none()?,
-    }
-    add_fields(&found.fields, answer)
-}
-
-// NOW MOST METHOD REQUEST: what is done with a request.
-fn call_look_up_part(
-    parts: &mut PartStore,
-    target: &str,
-    arguments: &mut Arguments<'_>,
-    answer: &mut CaseAnswer,
-) -> Result<(), CaseFailure> {
+// NOW MOST METHOD REQUEST: what is done with a request; of a 206 the bytes, and the fields.
+fn call_look_up_part(parts: &mut PartStore, target: &str, case: &mut Case<'_>) -> Made {
+    let alloc = case.alloc();
     let times = LookupTimes {
-        now: arguments.number()?,
-        longest_guess: arguments.number()?,
+        now: case.number(),
+        longest_guess: case.number(),
     };
-    let asked = StoreRequest::read(arguments)?;
-    match parts.lookup(answer.alloc(), target, &asked.head(), times)? {
-        PartLookup::Serve(found) => add_part_answer(parts, target, &found, answer),
-        PartLookup::Complete(fields) => {
-            answer.word("complete")?;
-            add_fields(&fields, answer)
+    let asked = StoreRequest::read(case);
+    match parts.lookup(alloc, target, &asked.head(), times)? {
+        PartLookup::Serve(found) => {
+            case.add("serve");
+            match parts.bytes(alloc, target, found.number, &found.part) {
+                Some(bytes) => case.add_bytes(bytes),
+                None => case.add_none(),
+            }
+            case.add_encoded(&found.fields);
         }
-        PartLookup::Unavailable => Ok(answer.word("unavailable")?),
-        PartLookup::Forward => Ok(answer.word("forward")?),
+        PartLookup::Complete(fields) => {
+            case.add("complete");
+            case.add_encoded(&fields);
+        }
+        PartLookup::Unavailable => case.add("unavailable"),
+        PartLookup::Forward => case.add("forward"),
     }
+    Ok(())
 }
 
 // Above each number that a history's parts have.
 const NUMBERS: u64 = 32;
 
 // The part of a target with the least number, or `(none)`.
-fn call_part(parts: &PartStore, target: &str, answer: &mut CaseAnswer) -> Result<(), CaseFailure> {
+fn call_part(parts: &PartStore, target: &str, case: &mut Case<'_>) -> Made {
     for number in 1..NUMBERS {
         if let Some(part) = parts.response(target, number) {
-            return add_stored(part, answer);
+            return say_stored(part, case);
         }
     }
-    Ok(answer.none()?)
-}
-
-// METHOD STATUS: the first part that is left under the target.
-fn call_invalidate_parts(
-    parts: &mut PartStore,
-    target: &str,
-    arguments: &mut Arguments<'_>,
-    answer: &mut CaseAnswer,
-) -> Result<(), CaseFailure> {
-    let (method, status) = (method(arguments)?, status(arguments)?);
-    parts.invalidate(answer.alloc(), target, &method, status);
-    call_part(parts, target, answer)
+    case.say("(none)")
 }
 
 /// Makes a call of a store of parts, and adds its answer.
@@ -130,26 +81,22 @@ pub fn make_part_call(
     store: &mut Store,
     name: &str,
     target: &str,
-    arguments: &mut Arguments<'_>,
-    answer: &mut CaseAnswer,
-) -> Result<(), CaseFailure> {
+    case: &mut Case<'_>,
+) -> Made {
     match name {
-        "record" => call_record(parts, store, target, Reception::Complete, arguments, answer),
-        "record_incomplete" => call_record(
-            parts,
-            store,
-            target,
-            Reception::Incomplete,
-            arguments,
-            answer,
-        ),
-        "look_up_part" => call_look_up_part(parts, target, arguments, answer),
-        "part" => call_part(parts, target, answer),
-        "invalidate_parts" => call_invalidate_parts(parts, target, arguments, answer),
-        "remove_parts" => {
-            parts.remove(answer.alloc(), target);
-            call_part(parts, target, answer)
+        "record" => return call_record(parts, store, target, Reception::Complete, case),
+        "record_incomplete" => {
+            return call_record(parts, store, target, Reception::Incomplete, case);
         }
-        _ => Err(CaseFailure::NoCall),
+        "look_up_part" => return call_look_up_part(parts, target, case),
+        "part" => {}
+        // METHOD STATUS: the first part that is left under the target.
+        "invalidate_parts" => {
+            let (method, status) = (case.method(), case.status());
+            parts.invalidate(case.alloc(), target, &method, status);
+        }
+        "remove_parts" => parts.remove(case.alloc(), target),
+        _ => return Err(CaseFailure::NoCall),
     }
+    call_part(parts, target, case)
 }

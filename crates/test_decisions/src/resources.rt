@@ -12,7 +12,7 @@ use headers::{ETag, HeaderMap, HeaderValue, Origin, decode_values};
 use http::Method;
 use matchit::Router;
 use std::alloc::Global;
-use test_rows::CaseFailure;
+use test_rows::{CaseFailure, Made};
 
 fn value(alloc: Global, text: Option<&str>) -> Result<Option<HeaderValue>, CaseFailure> {
     match text {
@@ -44,15 +44,18 @@ fn representation(
     })
 }
 
-// The rule of a method that takes any content.
-fn rule(alloc: Global, method: Method) -> MethodRule {
-    MethodRule {
-        method,
-        takes: HeaderMap::new(alloc),
-        creates: false,
-        needs_condition: false,
-        takes_parts: false,
-    }
+// A rule of a method that takes any content.
+fn add_rule(resource: &mut Resource, method: Method, creates: bool, alloc: Global) -> Made {
+    let takes = HeaderMap::new(alloc);
+    Ok(
+        resource.rules.push(MethodRule {
+            method,
+            takes,
+            creates,
+            needs_condition: false,
+            takes_parts: false,
+        })?,
+    )
 }
 
 // The methods of the server, beside GET and HEAD.
@@ -66,13 +69,10 @@ fn open_resource(
     representations: Vec<Representation>,
     is_strict: bool,
 ) -> Result<Resource, CaseFailure> {
-    let boundary = Boundary::new(alloc, "THIS_STRING_SEPARATES")?;
-    let mut rules = Vec::new(alloc);
-    rules.push(rule(alloc, Method::GET))?;
-    Ok(Resource {
+    let mut resource = Resource {
         hosts: None,
         implemented: implemented(alloc)?,
-        rules,
+        rules: Vec::new(alloc),
         state: State::Current,
         representations,
         negotiation: Negotiation {
@@ -81,37 +81,35 @@ fn open_resource(
             coding: true,
             is_strict,
         },
-        boundary,
+        boundary: Boundary::new(alloc, "THIS_STRING_SEPARATES")?,
         has_strong_dates: false,
         needs_length: false,
         limit: None,
         cors: None,
-    })
+    };
+    add_rule(&mut resource, Method::GET, false, alloc)?;
+    Ok(resource)
 }
 
 fn policy(alloc: Global) -> Result<CorsPolicy, CaseFailure> {
-    let mut origins = Vec::new(alloc);
     let line = HeaderValue::from_static("https://app.example");
     let origin: Origin = decode_values(alloc, &[line])?;
-    origins.push(origin)?;
-    match CorsPolicy::new(alloc, CorsRules::new(alloc, Allowed::Listed(origins))) {
+    let origins = Allowed::Listed(vec![in alloc; origin]?);
+    match CorsPolicy::new(alloc, CorsRules::new(alloc, origins)) {
         Ok(policy) => Ok(policy),
         Err(_) => Err(CaseFailure::Memory),
     }
 }
 
 fn own_hosts(alloc: Global) -> Result<Vec<HeaderValue>, CaseFailure> {
-    let mut hosts = Vec::new(alloc);
-    hosts.push(HeaderValue::from_static("a.example"))?;
-    Ok(hosts)
+    Ok(vec![in alloc; HeaderValue::from_static("a.example")]?)
 }
 
 fn note(alloc: Global) -> Result<Resource, CaseFailure> {
-    let mut notes = Vec::new(alloc);
-    notes.push(representation(alloc, "application/json", None, None, "\"n1\"")?)?;
+    let notes = vec![in alloc; representation(alloc, "application/json", None, None, "\"n1\"")?]?;
     let mut note = open_resource(alloc, notes, true)?;
     for method in [Method::PUT, Method::DELETE, Method::PATCH] {
-        note.rules.push(rule(alloc, method))?;
+        add_rule(&mut note, method, false, alloc)?;
     }
     note.hosts = Some(own_hosts(alloc)?);
     note.cors = Some(policy(alloc)?);
@@ -121,18 +119,27 @@ fn note(alloc: Global) -> Result<Resource, CaseFailure> {
 }
 
 fn page(alloc: Global) -> Result<Resource, CaseFailure> {
-    let html = "text/html";
     let mut pages = Vec::new(alloc);
-    pages.push(representation(alloc, html, None, Some("en"), "\"en\"")?)?;
-    pages.push(representation(alloc, html, None, Some("de"), "\"de\"")?)?;
-    pages.push(representation(alloc, html, Some("gzip"), Some("en"), "\"gz\"")?)?;
+    for (coding, language, tag) in [
+        (None, "en", "\"en\""),
+        (None, "de", "\"de\""),
+        (Some("gzip"), "en", "\"gz\""),
+    ] {
+        pages.push(representation(alloc, "text/html", coding, Some(language), tag)?)?;
+    }
     open_resource(alloc, pages, false)
 }
 
 fn report(alloc: Global) -> Result<Resource, CaseFailure> {
-    let mut reports = Vec::new(alloc);
-    reports.push(representation(alloc, "application/pdf", None, None, "\"r1\"")?)?;
+    let reports = vec![in alloc; representation(alloc, "application/pdf", None, None, "\"r1\"")?]?;
     open_resource(alloc, reports, true)
+}
+
+fn draft(alloc: Global) -> Result<Resource, CaseFailure> {
+    let mut draft = open_resource(alloc, Vec::new(alloc), true)?;
+    add_rule(&mut draft, Method::PUT, true, alloc)?;
+    draft.state = State::Absent;
+    Ok(draft)
 }
 
 // What all resources have in common.
@@ -163,15 +170,6 @@ pub fn routes(alloc: Global) -> Result<Routes<&'static str>, CaseFailure> {
         nowhere: nowhere(alloc, server(alloc)?)?,
         server_wide: server_wide(alloc, server(alloc)?)?,
     })
-}
-
-fn draft(alloc: Global) -> Result<Resource, CaseFailure> {
-    let mut draft = open_resource(alloc, Vec::new(alloc), true)?;
-    let mut put = rule(alloc, Method::PUT);
-    put.creates = true;
-    draft.rules.push(put)?;
-    draft.state = State::Absent;
-    Ok(draft)
 }
 
 /// The resource of this name.

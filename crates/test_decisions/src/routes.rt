@@ -1,83 +1,49 @@
 //! Answers by the path of a request, and the stage of a reason.
 use crate::resources::{resource_named, routes};
-use crate::store::method;
 use decide_preconditions::Plan;
-use decide_resource::{Answer as Made, Denied, Reason, RequestContent, ResourceRequest, Sends};
+use decide_resource::{Denied, Reason, RequestContent, ResourceRequest, Sends};
 use decide_routes::RoutedRequest;
 use gateway_messages::Protocol;
 use headers::{HeaderMap, HeaderValue, set_all};
-use http::Method;
-use test_rows::{Arguments, Calls, CaseAnswer, CaseFailure};
+use test_rows::{Calls, Case, CaseFailure, Made};
 
 /// The time of test cases: the start of 2026.
-const PRESENT: u64 = 1_767_225_600;
-
-/// The calls of routes.
-pub struct Routing;
-
-// Why, the status, what is sent, and the fields of a response that had these.
-fn add_outcome(made: Made, mut map: HeaderMap, answer: &mut CaseAnswer) -> Result<(), CaseFailure> {
-    let reason = made.reason;
-    answer.word(format_args!("{reason:?}"))?;
-    answer.option(made.status.map(|status| status.as_u16()))?;
-    match made.sends {
-        Sends::Nothing => answer.word("nothing")?,
-        Sends::Planned(Some(place), Plan::Full) => answer.word(format_args!("{place} whole"))?,
-        Sends::Planned(Some(place), Plan::Single(_)) => answer.word(format_args!("{place} part"))?,
-        _ => return Err(CaseFailure::NoCall),
-    }
-    set_all(&mut map, made.fields).map_err(|_| CaseFailure::Memory)?;
-    answer.map(&map)
-}
-
-// A request of HTTP/1.1 without content, which the server may deny.
-fn plain_head<'a>(
-    method: &'a Method,
-    fields: &'a HeaderMap,
-    denied: Option<&'a Denied>,
-) -> ResourceRequest<'a> {
-    let authority = None;
-    ResourceRequest {
-        protocol: Protocol::Http11,
-        method,
-        authority,
-        content: RequestContent::Absent,
-        fields,
-        denied,
-    }
-}
-
-fn asked_by<'a>(
-    path: &'a str,
-    method: &'a Method,
-    fields: &'a HeaderMap,
-    denied: Option<&'a Denied>,
-) -> RoutedRequest<'a> {
-    let request = plain_head(method, fields, denied);
-    RoutedRequest {
-        path,
-        request,
-        present: PRESENT,
-    }
-}
+pub const PRESENT: u64 = 1_767_225_600;
 
 // `route PATH METHOD FIELDS`: the reason, the status or `(none)`, what is sent, and the fields, for a request of
-// HTTP/1.1 without content by its path, among the routes of `resources.rt`.
-fn call_route(arguments: &mut Arguments<'_>, answer: &mut CaseAnswer) -> Result<(), CaseFailure> {
-    let set = HeaderMap::new(arguments.alloc());
-    answer_route(arguments, answer, None, set)
+// HTTP/1.1 without content by its path, among the routes of `resources.rt`. The response had these fields, and the server
+// may deny the request.
+fn call_route(denied: Option<&Denied>, mut set: HeaderMap, case: &mut Case<'_>) -> Made {
+    let alloc = case.alloc();
+    let (path, method, fields) = (case.word(), case.method(), case.map());
+    let asked = RoutedRequest {
+        path,
+        request: ResourceRequest {
+            protocol: Protocol::Http11,
+            method: &method,
+            authority: None,
+            content: RequestContent::Absent,
+            fields: &fields,
+            denied,
+        },
+        present: PRESENT,
+    };
+    let made = routes(alloc)?.answer_at(alloc, &asked, |name, _| resource_named(alloc, name))?;
+    let reason = made.reason;
+    case.add(format_args!("{reason:?}"));
+    case.add_option(made.status.map(|status| status.as_u16()));
+    match made.sends {
+        Sends::Nothing => case.add("nothing"),
+        Sends::Planned(Some(place), Plan::Full) => case.add(format_args!("{place} whole")),
+        Sends::Planned(Some(place), Plan::Single(_)) => case.add(format_args!("{place} part")),
+        _ => return Err(CaseFailure::NoCall),
+    }
+    set_all(&mut set, made.fields)?;
+    case.say_map(&set)
 }
 
-// `route_over SET (/) PATH METHOD FIELDS`: the same for a response that had the fields SET.
-fn call_route_over(
-    arguments: &mut Arguments<'_>,
-    answer: &mut CaseAnswer,
-) -> Result<(), CaseFailure> {
-    let set = arguments.map()?;
-    answer_route(arguments, answer, None, set)
-}
-
-// Why the server denies a request, by its status.
+// Why the server denies a request, by its status: by 401 with the challenge `Basic realm="a"`, by 403, by 429 for 120
+// seconds, or by 503.
 fn denied_by(status: &str) -> Result<Denied, CaseFailure> {
     Ok(match status {
         "401" => Denied::Unauthenticated(HeaderValue::from_static("Basic realm=\"a\"")),
@@ -88,57 +54,40 @@ fn denied_by(status: &str) -> Result<Denied, CaseFailure> {
     })
 }
 
-// `denied STATUS PATH METHOD FIELDS`: the same for a request that the server denies: by 401 with the challenge `Basic
-// realm="a"`, by 403, by 429 for 120 seconds, or by 503.
-fn call_denied(arguments: &mut Arguments<'_>, answer: &mut CaseAnswer) -> Result<(), CaseFailure> {
-    let denied = denied_by(arguments.word()?)?;
-    let set = HeaderMap::new(arguments.alloc());
-    answer_route(arguments, answer, Some(denied), set)
-}
-
-fn answer_route(
-    arguments: &mut Arguments<'_>,
-    answer: &mut CaseAnswer,
-    denied: Option<Denied>,
-    set: HeaderMap,
-) -> Result<(), CaseFailure> {
-    let alloc = arguments.alloc();
-    let path = arguments.word()?;
-    let method = method(arguments)?;
-    let fields = arguments.map()?;
-    let asked = asked_by(path, &method, &fields, denied.as_ref());
-    let made = routes(alloc)?.answer_at(alloc, &asked, |name, _| resource_named(alloc, name))?;
-    add_outcome(made, set, answer)
-}
-
-macro_rules! reason_named {
-    ($word:expr, $($reason:ident)+) => {
-        match $word {
-            $(stringify!($reason) => Ok(Reason::$reason),)+
-            _ => Err(CaseFailure::NoCall),
-        }
+// The reasons, each with its name.
+macro_rules! reasons {
+    ($($reason:ident)+) => {
+        [$((stringify!($reason), Reason::$reason)),+]
     };
 }
 
-fn read_reason(arguments: &mut Arguments<'_>) -> Result<Reason, CaseFailure> {
-    reason_named!(arguments.word()?,
+// `stage REASON`: its stage.
+fn call_stage(wanted: &str, case: &mut Case<'_>) -> Made {
+    let reasons = reasons!(
         InvalidHost Misdirected Preflight Denied UnknownMethod MethodNotAllowed Options UnmetExpectation
         PartialContent Moved Gone NotFound LengthRequired ContentTooLarge UnsupportedMediaType
-        UnsupportedCoding NotAcceptable PreconditionRequired Admitted)
+        UnsupportedCoding NotAcceptable PreconditionRequired Admitted);
+    for (name, reason) in reasons {
+        if name == wanted {
+            return case.say(reason.stage());
+        }
+    }
+    Err(CaseFailure::NoCall)
 }
 
+/// The calls of routes.
+pub struct Routing;
+
 impl Calls for Routing {
-    fn make(
-        name: &str,
-        arguments: &mut Arguments<'_>,
-        answer: &mut CaseAnswer,
-    ) -> Result<(), CaseFailure> {
+    fn make(name: &str, case: &mut Case<'_>) -> Made {
+        let none = HeaderMap::new(case.alloc());
         match name {
-            "route" => call_route(arguments, answer),
-            "route_over" => call_route_over(arguments, answer),
-            "denied" => call_denied(arguments, answer),
-            // `stage REASON`: its stage.
-            "stage" => Ok(answer.word(read_reason(arguments)?.stage())?),
+            "route" => call_route(None, none, case),
+            // `route_over SET (/) PATH METHOD FIELDS`: for a response that had the fields SET.
+            "route_over" => call_route(None, case.map(), case),
+            // `denied STATUS PATH METHOD FIELDS`: for a request that the server denies.
+            "denied" => call_route(Some(&denied_by(case.word())?), none, case),
+            "stage" => call_stage(case.word(), case),
             _ => Err(CaseFailure::NoCall),
         }
     }

@@ -1,15 +1,15 @@
 //! The calls of a store.
-use crate::parts::{make_part_call, new_parts};
+use crate::parts::make_part_call;
 use bytes::Bytes;
 use cache_policy::{Kind, RequestHead};
 use cache_rules::{Exchange, Reception, StoredAnswer, StoredResponse};
 use cache_store::parts::PartStore;
 use cache_store::{Limits, Lookup, LookupTimes, Options, Refreshed, Store, named_targets};
-use headers::{Encoded, HeaderMap};
-use http::{Method, StatusCode};
-use std::alloc::{AllocError, Global};
+use headers::HeaderMap;
+use http::Method;
+use std::alloc::Global;
 use std::hash::RandomState;
-use test_rows::{Arguments, CaseAnswer, CaseFailure};
+use test_rows::{Case, CaseFailure, Made};
 
 /// The stores of a cache: of complete responses, and of parts.
 #[derive(Drop)]
@@ -22,76 +22,54 @@ pub struct Caches {
 
 /// KIND VARIANTS RESPONSES BYTES, and maybe `immutable` or `plain` with the names of targeted fields: a
 /// cache without a response, whose stores have these limits each.
-pub fn new_caches(alloc: Global, keys: RandomState, limits: &str) -> Result<Caches, CaseFailure> {
-    Ok(Caches {
-        responses: new_store(alloc, keys, limits)?,
-        parts: new_parts(alloc, keys, limits)?,
-    })
-}
-
-fn new_store(alloc: Global, keys: RandomState, limits: &str) -> Result<Store, CaseFailure> {
-    let mut arguments = Arguments::new(alloc, limits);
-    let (kind, limits) = read_limits(&mut arguments)?;
-    if arguments.is_empty() {
-        return Ok(Store::new(alloc, kind, limits, keys)?);
-    }
-    let options = read_options(alloc, &mut arguments)?;
-    Ok(Store::with_options(alloc, kind, options, limits, keys)?)
+pub fn new_caches(alloc: Global, keys: RandomState, words: &str) -> Result<Caches, CaseFailure> {
+    let mut case = Case::new(alloc, words);
+    let (kind, limits) = read_limits(&mut case);
+    let responses = if case.is_empty() {
+        Store::new(alloc, kind, limits, keys)?
+    } else {
+        Store::with_options(alloc, kind, read_options(&mut case)?, limits, keys)?
+    };
+    case.put_back(words);
+    let (kind, limits) = read_limits(&mut case);
+    let parts = PartStore::new(alloc, kind, read_options(&mut case)?, limits, keys)?;
+    case.finish(Ok(()))?;
+    Ok(Caches { responses, parts })
 }
 
 /// The next word, as a kind of cache.
-pub fn kind(arguments: &mut Arguments<'_>) -> Result<Kind, CaseFailure> {
-    match arguments.word()? {
-        "shared" => Ok(Kind::Shared),
-        "private" => Ok(Kind::Private),
-        _ => Err(CaseFailure::NoCall),
+pub fn kind(case: &mut Case<'_>) -> Kind {
+    if case.flag("shared", "private") {
+        Kind::Shared
+    } else {
+        Kind::Private
     }
 }
 
-/// The next four words, as whom a cache serves, and its limits.
-pub fn read_limits(arguments: &mut Arguments<'_>) -> Result<(Kind, Limits), CaseFailure> {
-    let kind = kind(arguments)?;
+// The next four words, as whom a cache serves, and its limits.
+fn read_limits(case: &mut Case<'_>) -> (Kind, Limits) {
+    let kind = kind(case);
     let limits = Limits {
-        variants: size(arguments)?,
-        responses: size(arguments)?,
-        bytes: size(arguments)?,
+        variants: case.size(),
+        responses: case.size(),
+        bytes: case.size(),
     };
-    Ok((kind, limits))
+    (kind, limits)
 }
 
-/// The next words, as options.
-pub fn read_options(alloc: Global, arguments: &mut Arguments<'_>) -> Result<Options, CaseFailure> {
-    let immutable = match arguments.word()? {
-        "immutable" => true,
-        "plain" => false,
-        _ => return Err(CaseFailure::NoCall),
-    };
-    let targets = arguments.names()?.collect(alloc)?;
+// The words that are left, as options.
+fn read_options(case: &mut Case<'_>) -> Result<Options, CaseFailure> {
+    let immutable = !case.is_empty() && case.flag("immutable", "plain");
+    let targets = case.names().collect(case.alloc())?;
     Ok(Options { immutable, targets })
 }
 
-/// The next word, as a number of bytes or of responses.
-pub fn size(arguments: &mut Arguments<'_>) -> Result<usize, CaseFailure> {
-    usize::try_from(arguments.number()?).map_err(|_| CaseFailure::NoCall)
-}
-
-/// The next word, as a status.
-pub fn status(arguments: &mut Arguments<'_>) -> Result<StatusCode, CaseFailure> {
-    let code = u16::try_from(arguments.number()?).map_err(|_| CaseFailure::NoCall)?;
-    StatusCode::from_u16(code).map_err(|_| CaseFailure::NoCall)
-}
-
-/// The next word, as a method.
-pub fn method(arguments: &mut Arguments<'_>) -> Result<Method, CaseFailure> {
-    Ok(Method::from_bytes(arguments.alloc(), &arguments.bytes()?)?)
-}
-
 // The next two words, as the times of a request and of its response.
-fn exchange(arguments: &mut Arguments<'_>) -> Result<Exchange, CaseFailure> {
-    Ok(Exchange {
-        requested: arguments.number()?,
-        received: arguments.number()?,
-    })
+fn exchange(case: &mut Case<'_>) -> Exchange {
+    Exchange {
+        requested: case.number(),
+        received: case.number(),
+    }
 }
 
 /// METHOD REQUEST: a request.
@@ -105,10 +83,11 @@ pub struct StoreRequest {
 
 impl StoreRequest {
     /// The next words, as a request.
-    pub fn read(arguments: &mut Arguments<'_>) -> Result<StoreRequest, CaseFailure> {
-        let method = method(arguments)?;
-        let fields = arguments.map()?;
-        Ok(StoreRequest { method, fields })
+    pub fn read(case: &mut Case<'_>) -> StoreRequest {
+        StoreRequest {
+            method: case.method(),
+            fields: case.map(),
+        }
     }
 
     /// The request as a cache sees it.
@@ -120,57 +99,15 @@ impl StoreRequest {
     }
 }
 
-// REQUESTED RECEIVED METHOD REQUEST UPDATE: what a validating response says, and its request.
-#[derive(Drop)]
-struct Update {
-    exchange: Exchange,
-    asked: StoreRequest,
-    fields: HeaderMap,
-}
-
-impl Update {
-    fn read(arguments: &mut Arguments<'_>) -> Result<Update, CaseFailure> {
-        let exchange = exchange(arguments)?;
-        let asked = StoreRequest::read(arguments)?;
-        let fields = arguments.map()?;
-        Ok(Update {
-            exchange,
-            asked,
-            fields,
-        })
-    }
-}
-
 // The content of the response with a number, or `(none)`.
-fn add_content(
-    store: &Store,
-    target: &str,
-    number: u64,
-    answer: &mut CaseAnswer,
-) -> Result<(), AllocError> {
+fn add_content(store: &Store, target: &str, number: u64, case: &mut Case<'_>) {
     match store.response(target, number) {
-        Some(response) => answer.bytes(response.content.as_slice()),
-        None => answer.none(),
+        Some(response) => case.add_bytes(response.content.as_slice()),
+        None => case.add_none(),
     }
 }
 
-/// Fields, also those without a field line.
-pub fn add_fields(fields: &[Encoded], answer: &mut CaseAnswer) -> Result<(), CaseFailure> {
-    for field in fields {
-        answer.word(format_args!("({})", field.name.as_str()))?;
-        for line in field.lines.iter() {
-            answer.line(line)?;
-        }
-    }
-    Ok(())
-}
-
-fn add_lookup(
-    store: &Store,
-    target: &str,
-    found: &Lookup,
-    answer: &mut CaseAnswer,
-) -> Result<(), CaseFailure> {
+fn say_lookup(store: &Store, target: &str, found: &Lookup, case: &mut Case<'_>) -> Made {
     let (word, number, fields) = match found {
         Lookup::Serve(number, age) => ("serve", *number, std::slice::from_ref(age)),
         Lookup::ServeAndRevalidate(number, age) => {
@@ -180,255 +117,170 @@ fn add_lookup(
         Lookup::ValidateOrServe(number, fields) => {
             ("validate_or_serve", *number, fields.as_slice())
         }
-        Lookup::Unavailable => return Ok(answer.word("unavailable")?),
-        Lookup::Forward => return Ok(answer.word("forward")?),
+        Lookup::Unavailable => return case.say("unavailable"),
+        Lookup::Forward => return case.say("forward"),
     };
-    answer.word(word)?;
-    add_content(store, target, number, answer)?;
-    add_fields(fields, answer)
-}
-
-fn look_up(
-    store: &mut Store,
-    target: &str,
-    asked: &StoreRequest,
-    now: u64,
-    guess: Option<u64>,
-    answer: &mut CaseAnswer,
-) -> Result<(), CaseFailure> {
-    let (alloc, request) = (answer.alloc(), asked.head());
-    let found = match guess {
-        Some(longest_guess) => {
-            let times = LookupTimes { now, longest_guess };
-            store.lookup_guessing(alloc, target, &request, times)?
-        }
-        None => store.lookup(alloc, target, &request, now)?,
-    };
-    add_lookup(store, target, &found, answer)
+    case.add(word);
+    add_content(store, target, number, case);
+    case.add_encoded(fields);
+    Ok(())
 }
 
 // NOW METHOD REQUEST, and before METHOD the greatest lifetime that is guessed: what is done, the
 // content of the response, and Age or the conditions.
-fn call_lookup(
-    store: &mut Store,
-    target: &str,
-    guesses: bool,
-    arguments: &mut Arguments<'_>,
-    answer: &mut CaseAnswer,
-) -> Result<(), CaseFailure> {
-    let now = arguments.number()?;
-    let guess = if guesses {
-        Some(arguments.number()?)
-    } else {
-        None
+fn call_lookup(store: &mut Store, target: &str, guesses: bool, case: &mut Case<'_>) -> Made {
+    let (alloc, now) = (case.alloc(), case.number());
+    let guess = if guesses { Some(case.number()) } else { None };
+    let asked = StoreRequest::read(case);
+    let found = match guess {
+        Some(longest_guess) => {
+            let times = LookupTimes { now, longest_guess };
+            store.lookup_guessing(alloc, target, &asked.head(), times)?
+        }
+        None => store.lookup(alloc, target, &asked.head(), now)?,
     };
-    let asked = StoreRequest::read(arguments)?;
-    look_up(store, target, &asked, now, guess, answer)
+    say_lookup(store, target, &found, case)
 }
 
 /// REQUESTED RECEIVED METHOD REQUEST STATUS CONTENT RESPONSE: a response, and its request.
-pub fn read_came(arguments: &mut Arguments<'_>) -> Result<StoredResponse, CaseFailure> {
-    let Exchange {
-        requested,
-        received,
-    } = exchange(arguments)?;
-    let StoreRequest { method, fields } = StoreRequest::read(arguments)?;
-    let status = status(arguments)?;
-    let content = Bytes::from_vec(arguments.bytes()?)?;
-    let response = arguments.map()?;
+pub fn read_came(case: &mut Case<'_>) -> Result<StoredResponse, CaseFailure> {
     Ok(StoredResponse {
-        method,
-        request: fields,
-        status,
-        content,
-        response,
-        requested,
-        received,
+        requested: case.number(),
+        received: case.number(),
+        method: case.method(),
+        request: case.map(),
+        status: case.status(),
+        content: Bytes::from_vec(case.bytes())?,
+        response: case.map(),
         number: 0,
     })
 }
 
 // The same: whether it is stored.
-fn call_store(
-    store: &mut Store,
-    target: &str,
-    reception: Reception,
-    arguments: &mut Arguments<'_>,
-    answer: &mut CaseAnswer,
-) -> Result<(), CaseFailure> {
-    let came = read_came(arguments)?;
-    let stored = store.store(arguments.alloc(), target, came, reception)?;
-    Ok(answer.word(if stored.is_some() {
+fn call_store(store: &mut Store, target: &str, reception: Reception, case: &mut Case<'_>) -> Made {
+    let came = read_came(case)?;
+    let stored = store.store(case.alloc(), target, came, reception)?;
+    case.say(if stored.is_some() {
         "stored"
     } else {
         "unstored"
-    })?)
+    })
 }
 
-// An update: which response is the answer after a 304.
-fn call_freshen(
-    store: &mut Store,
-    target: &str,
-    update: &Update,
-    answer: &mut CaseAnswer,
-) -> Result<(), CaseFailure> {
-    let request = update.asked.head();
-    match store.freshen(
-        answer.alloc(),
-        target,
-        &request,
-        &update.fields,
-        update.exchange,
-    )? {
-        Refreshed::Absent => Ok(answer.word("absent")?),
-        Refreshed::Unchanged => Ok(answer.word("unchanged")?),
+// REQUESTED RECEIVED METHOD REQUEST UPDATE: which response is the answer after a 304.
+fn call_freshen(store: &mut Store, target: &str, case: &mut Case<'_>) -> Made {
+    let (alloc, exchange) = (case.alloc(), exchange(case));
+    let (asked, update) = (StoreRequest::read(case), case.map());
+    match store.freshen(alloc, target, &asked.head(), &update, exchange)? {
+        Refreshed::Absent => case.say("absent"),
+        Refreshed::Unchanged => case.say("unchanged"),
         Refreshed::Stored(number) => {
-            answer.word("stored")?;
-            Ok(add_content(store, target, number, answer)?)
+            case.add("stored");
+            add_content(store, target, number, case);
+            Ok(())
         }
         Refreshed::Once(response) => {
-            answer.word("once")?;
-            add_stored(&response, answer)
+            case.add("once");
+            say_stored(&response, case)
         }
     }
 }
 
-// An update: how many responses are left under the target after a 200 to HEAD.
-fn call_freshen_by_head(
-    store: &mut Store,
-    target: &str,
-    update: &Update,
-    answer: &mut CaseAnswer,
-) -> Result<(), CaseFailure> {
-    let request = update.asked.head();
-    store.freshen_by_head(
-        answer.alloc(),
-        target,
-        &request,
-        &update.fields,
-        update.exchange,
-    )?;
-    Ok(answer.word(store.responses(target).len())?)
-}
-
-// The next word, as whether ranges are answered.
-fn ranges(arguments: &mut Arguments<'_>) -> Result<bool, CaseFailure> {
-    match arguments.word()? {
-        "ranges" => Ok(true),
-        "no_ranges" => Ok(false),
-        _ => Err(CaseFailure::NoCall),
-    }
+// The same of a 200 to HEAD: how many responses are left under the target.
+fn call_freshen_by_head(store: &mut Store, target: &str, case: &mut Case<'_>) -> Made {
+    let (alloc, exchange) = (case.alloc(), exchange(case));
+    let (asked, update) = (StoreRequest::read(case), case.map());
+    store.freshen_by_head(alloc, target, &asked.head(), &update, exchange)?;
+    case.say(store.responses(target).len())
 }
 
 // PLACE NOW RANGES METHOD REQUEST: how the response at the place, in the order of storing, answers the
-// conditions.
-fn call_answer(
-    store: &Store,
-    target: &str,
-    arguments: &mut Arguments<'_>,
-    answer: &mut CaseAnswer,
-) -> Result<(), CaseFailure> {
-    let (place, now) = (size(arguments)?, arguments.number()?);
-    let ranges = ranges(arguments)?;
-    let asked = StoreRequest::read(arguments)?;
-    let Some(number) = number_at(store.responses(target), place) else {
-        return Ok(answer.none()?);
+// conditions, and maybe ranges.
+fn call_answer(store: &Store, target: &str, case: &mut Case<'_>) -> Made {
+    let (place, now) = (case.size(), case.number());
+    let ranges = case.flag("ranges", "no_ranges");
+    let asked = StoreRequest::read(case);
+    let Some(response) = store.responses(target).get(place) else {
+        return case.say("(none)");
     };
-    match store.answer(answer.alloc(), target, number, &asked.head(), now, ranges)? {
-        Some(found) => Ok(add_stored_answer(found, answer)?),
-        None => Ok(answer.none()?),
-    }
-}
-
-// The number of the response at a place.
-fn number_at(responses: &[StoredResponse], place: usize) -> Option<u64> {
-    Some(responses.get(place)?.number)
-}
-
-// How a stored response answers conditions and ranges.
-fn add_stored_answer(found: StoredAnswer, answer: &mut CaseAnswer) -> Result<(), AllocError> {
-    match found {
-        StoredAnswer::Whole => answer.word("whole"),
-        StoredAnswer::Part(part) => answer.word(format_args!("part {}-{}", part.first, part.last)),
-        StoredAnswer::NotModified => answer.word("not_modified"),
-        StoredAnswer::Unsatisfiable => answer.word("unsatisfiable"),
-        StoredAnswer::Forward => answer.word("forward"),
+    let number = response.number;
+    match store.answer(case.alloc(), target, number, &asked.head(), now, ranges)? {
+        Some(StoredAnswer::Whole) => case.say("whole"),
+        Some(StoredAnswer::Part(part)) => {
+            case.say(format_args!("part {}-{}", part.first, part.last))
+        }
+        Some(StoredAnswer::NotModified) => case.say("not_modified"),
+        Some(StoredAnswer::Unsatisfiable) => case.say("unsatisfiable"),
+        Some(StoredAnswer::Forward) => case.say("forward"),
+        None => case.say("(none)"),
     }
 }
 
 // METHOD STATUS: how many responses are left under the target.
-fn call_invalidate(
-    store: &mut Store,
-    target: &str,
-    arguments: &mut Arguments<'_>,
-    answer: &mut CaseAnswer,
-) -> Result<(), CaseFailure> {
-    let (method, status) = (method(arguments)?, status(arguments)?);
-    store.invalidate(arguments.alloc(), target, &method, status);
-    Ok(answer.word(store.responses(target).len())?)
+fn call_invalidate(store: &mut Store, target: &str, case: &mut Case<'_>) -> Made {
+    let (method, status) = (case.method(), case.status());
+    store.invalidate(case.alloc(), target, &method, status);
+    case.say(store.responses(target).len())
 }
 
 // RESPONSE: how many URLs of its origin the response names, and these.
-fn call_named_targets(
-    target: &str,
-    arguments: &mut Arguments<'_>,
-    answer: &mut CaseAnswer,
-) -> Result<(), CaseFailure> {
-    let response = arguments.map()?;
-    let Ok(urls) = named_targets(answer.alloc(), target, &response) else {
+fn call_named_targets(target: &str, case: &mut Case<'_>) -> Made {
+    let response = case.map();
+    let Ok(urls) = named_targets(case.alloc(), target, &response) else {
         return Err(CaseFailure::Memory);
     };
-    answer.word(urls.len())?;
+    case.add(urls.len());
     for url in &urls {
-        answer.bytes(url.as_str().as_bytes())?;
+        case.add_bytes(url.as_str().as_bytes());
     }
     Ok(())
 }
 
 /// A stored response: method, status, content, times and fields.
-pub fn add_stored(response: &StoredResponse, answer: &mut CaseAnswer) -> Result<(), CaseFailure> {
-    answer.word(response.method.as_str())?;
-    answer.word(response.status.as_u16())?;
-    answer.bytes(response.content.as_slice())?;
-    answer.word(response.requested)?;
-    answer.word(response.received)?;
-    answer.map(&response.response)
+pub fn say_stored(response: &StoredResponse, case: &mut Case<'_>) -> Made {
+    case.add(response.method.as_str());
+    case.add(response.status.as_u16());
+    case.add_bytes(response.content.as_slice());
+    case.add(response.requested);
+    case.add(response.received);
+    case.say_map(&response.response)
 }
 
 // How many responses are stored under the target, and each of them.
-fn call_responses(store: &Store, target: &str, answer: &mut CaseAnswer) -> Result<(), CaseFailure> {
+fn call_responses(store: &Store, target: &str, case: &mut Case<'_>) -> Made {
     let responses = store.responses(target);
-    answer.word(responses.len())?;
+    case.add(responses.len());
     for response in responses {
-        answer.word("(/)")?;
-        add_stored(response, answer)?;
+        case.add("(/)");
+        say_stored(response, case)?;
     }
     Ok(())
 }
 
-/// Makes a call of a cache, and adds its answer. The first word is the target.
-pub fn make(
-    caches: &mut Caches,
-    name: &str,
-    arguments: &mut Arguments<'_>,
-    answer: &mut CaseAnswer,
-) -> Result<(), CaseFailure> {
-    let target = arguments.text()?;
-    let target = target.as_str();
-    let store = &mut caches.responses;
+fn make_store_call(store: &mut Store, name: &str, target: &str, case: &mut Case<'_>) -> Made {
     match name {
-        "lookup" => call_lookup(store, target, false, arguments, answer),
-        "lookup_guessing" => call_lookup(store, target, true, arguments, answer),
-        "store" => call_store(store, target, Reception::Complete, arguments, answer),
-        "store_incomplete" => call_store(store, target, Reception::Incomplete, arguments, answer),
-        "freshen" => call_freshen(store, target, &Update::read(arguments)?, answer),
-        "freshen_by_head" => {
-            call_freshen_by_head(store, target, &Update::read(arguments)?, answer)
+        "store" => call_store(store, target, Reception::Complete, case),
+        "store_incomplete" => call_store(store, target, Reception::Incomplete, case),
+        "freshen" => call_freshen(store, target, case),
+        "freshen_by_head" => call_freshen_by_head(store, target, case),
+        "answer" => call_answer(store, target, case),
+        "invalidate" => call_invalidate(store, target, case),
+        "named_targets" => call_named_targets(target, case),
+        "responses" => call_responses(store, target, case),
+        _ => Err(CaseFailure::NoCall),
+    }
+}
+
+/// Makes a call of a cache, and adds its answer. The first word is the target.
+pub fn make(caches: &mut Caches, name: &str, case: &mut Case<'_>) -> Made {
+    let target = case.text();
+    let (target, store) = (target.as_str(), &mut caches.responses);
+    match name {
+        "lookup" => call_lookup(store, target, false, case),
+        "lookup_guessing" => call_lookup(store, target, true, case),
+        _ if name.contains("part") || name.starts_with("record") => {
+            make_part_call(&mut caches.parts, store, name, target, case)
         }
-        "answer" => call_answer(store, target, arguments, answer),
-        "invalidate" => call_invalidate(store, target, arguments, answer),
-        "named_targets" => call_named_targets(target, arguments, answer),
-        "responses" => call_responses(store, target, answer),
-        _ => make_part_call(&mut caches.parts, store, name, target, arguments, answer),
+        _ => make_store_call(store, name, target, case),
     }
 }

@@ -4,8 +4,8 @@ use crate::writing::{lines_behind, value_before, written};
 use headers::{
     Encoded, Header, HeaderMap, HeaderMapExt, HeaderName, HeaderValue, canonical, encoding,
 };
-use std::alloc::{AllocError, Global};
-use test_rows::{Arguments, CaseAnswer, CaseFailure};
+use std::alloc::Global;
+use test_rows::{Case, CaseFailure, Made};
 
 /// Whether two lines have the same bytes, and are marked alike.
 pub fn is_same(line: &HeaderValue, other: &HeaderValue) -> bool {
@@ -26,11 +26,10 @@ fn are_same(lines: &[HeaderValue], others: &[HeaderValue]) -> bool {
 }
 
 // Adds the name of a call that doesn't write the wanted lines.
-fn add_unless(is_wanted: bool, name: &str, answer: &mut CaseAnswer) -> Result<(), AllocError> {
-    if is_wanted {
-        return Ok(());
+fn add_unless(is_wanted: bool, name: &str, case: &mut Case<'_>) {
+    if !is_wanted {
+        case.add(name);
     }
-    answer.word(name)
 }
 
 // The lines that a header writes, with the value before them. `None` if the call fails and the
@@ -128,64 +127,50 @@ fn is_encoding<H: Header>(encoded: &Encoded, lines: &[HeaderValue]) -> bool {
 }
 
 // Names the calls that don't read the lines of the map.
-fn reads<H: Header>(
-    map: &HeaderMap,
-    lines: &[HeaderValue],
-    answer: &mut CaseAnswer,
-) -> Result<(), CaseFailure> {
-    let alloc = answer.alloc();
+fn reads<H: Header>(map: &HeaderMap, lines: &[HeaderValue], case: &mut Case<'_>) -> Made {
+    let alloc = case.alloc();
     let tried = map.typed_try_get::<H>(alloc)?;
-    add_unless(gives(alloc, tried, lines)?, "(typed_try_get)", answer)?;
+    add_unless(gives(alloc, tried, lines)?, "(typed_try_get)", case);
     let got = map.typed_get::<H>(alloc);
     if got.is_none() {
         return Err(CaseFailure::Memory);
     }
-    add_unless(gives(alloc, got, lines)?, "(typed_get)", answer)?;
+    add_unless(gives(alloc, got, lines)?, "(typed_get)", case);
     let is_wanted = match canonical::<H>(alloc, map)? {
         Some(encoded) => is_encoding::<H>(&encoded, lines),
         None => false,
     };
-    Ok(add_unless(is_wanted, "(canonical)", answer)?)
+    add_unless(is_wanted, "(canonical)", case);
+    Ok(())
 }
 
 // Names the calls on the header, and then on a map that has it, that don't write the lines.
-fn add_calls<H: Header>(
-    header: H,
-    lines: &[HeaderValue],
-    answer: &mut CaseAnswer,
-) -> Result<(), CaseFailure> {
-    let alloc = answer.alloc();
+fn add_calls<H: Header>(header: H, lines: &[HeaderValue], case: &mut Case<'_>) -> Made {
+    let alloc = case.alloc();
     let is_wanted = is_encoding::<H>(&encoding(alloc, &header)?, lines);
-    add_unless(is_wanted, "(encoding)", answer)?;
+    add_unless(is_wanted, "(encoding)", case);
     let Some(map) = inserted(alloc, header, lines)? else {
-        return Ok(answer.word("(left)")?);
+        return case.say("(left)");
     };
     let is_wanted = holds(&map, &H::name(), lines) && keeps_other(&map);
-    add_unless(is_wanted, "(typed_insert)", answer)?;
-    reads::<H>(&map, lines, answer)
+    add_unless(is_wanted, "(typed_insert)", case);
+    reads::<H>(&map, lines, case)
 }
 
 /// Adds the lines that each call writes of what the lines decode to, after the name of a call that
 /// writes others. `(left)` if a call that ran out of memory left what it must not.
-pub fn everywhere<H: Header + Getters<P>, P>(
-    arguments: &mut Arguments<'_>,
-    answer: &mut CaseAnswer,
-) -> Result<(), CaseFailure> {
-    let alloc = arguments.alloc();
-    let header: H = arguments.header_of_rest()?;
+pub fn everywhere<H: Header + Getters<P>, P>(case: &mut Case<'_>) -> Made {
+    let alloc = case.alloc();
+    let header: H = case.header_of_rest()?;
     let copy = copy_of(alloc, &header)?;
     let (Some(lines), Some(of_copy)) = (encoded(alloc, &header)?, encoded(alloc, &copy)?) else {
-        return Ok(answer.word("(left)")?);
+        return case.say("(left)");
     };
-    add_unless(are_same(&of_copy, &lines), "(copy)", answer)?;
-    match lines_behind(&lines) {
-        Some(behind) => {
-            add_calls(header, behind, answer)?;
-            for line in behind {
-                answer.bytes(line.as_bytes())?;
-            }
-            Ok(())
-        }
-        None => Ok(answer.word("(changed)")?),
-    }
+    add_unless(are_same(&of_copy, &lines), "(copy)", case);
+    let Some(behind) = lines_behind(&lines) else {
+        return case.say("(changed)");
+    };
+    add_calls(header, behind, case)?;
+    case.add_each(behind);
+    Ok(())
 }

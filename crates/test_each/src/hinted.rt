@@ -1,10 +1,10 @@
 //! Iterators that hint wrongly at how much is left, and lines that mean harm.
-use crate::replay::{Getters, show};
+use crate::replay::{Getters, show, show_result};
 use crate::writing::written;
 use headers::{Error, Header, HeaderName, HeaderValue, Refused, decode_values};
 use http::Method;
 use std::alloc::Global;
-use test_rows::{Arguments, CaseAnswer, CaseFailure};
+use test_rows::{Case, CaseFailure, Made};
 
 /// What an iterator says of how much is left.
 #[derive(Clone, Copy, Drop)]
@@ -48,50 +48,43 @@ impl<T: Drop> Iterator for Hinted<T> {
 }
 
 // The next word, as a hint; the right one for a call `from_iter`, which has no such word.
-fn hint_of(call: &str, arguments: &mut Arguments<'_>) -> Result<Hint, CaseFailure> {
+fn hint_of(call: &str, case: &mut Case<'_>) -> Hint {
     if call.ends_with("from_iter") {
-        return Ok(Hint::Right);
+        Hint::Right
+    } else {
+        read_hint(case)
     }
-    read_hint(arguments)
 }
 
 // The next word, as a hint.
-fn read_hint(arguments: &mut Arguments<'_>) -> Result<Hint, CaseFailure> {
-    match arguments.word()? {
-        "unknown" => Ok(Hint::Unknown),
-        "too-much" => Ok(Hint::TooMuch),
-        _ => Err(CaseFailure::NoCall),
+fn read_hint(case: &mut Case<'_>) -> Hint {
+    if case.flag("unknown", "too-much") {
+        Hint::Unknown
+    } else {
+        Hint::TooMuch
     }
 }
 
 /// The names of a call `from_iter NAME..` or `from_hinted_iter HINT NAME..`.
-pub fn hinted_names(
-    call: &str,
-    arguments: &mut Arguments<'_>,
-) -> Result<Hinted<HeaderName>, CaseFailure> {
-    let hint = hint_of(call, arguments)?;
-    let elements = arguments.names()?;
-    Ok(Hinted { elements, hint })
+pub fn hinted_names(call: &str, case: &mut Case<'_>) -> Hinted<HeaderName> {
+    let hint = hint_of(call, case);
+    let elements = case.names();
+    Hinted { elements, hint }
 }
 
 /// The methods of such a call.
-pub fn hinted_methods(
-    call: &str,
-    arguments: &mut Arguments<'_>,
-) -> Result<Hinted<Method>, CaseFailure> {
-    let hint = hint_of(call, arguments)?;
-    let elements = arguments.methods()?;
-    Ok(Hinted { elements, hint })
+pub fn hinted_methods(call: &str, case: &mut Case<'_>) -> Hinted<Method> {
+    let hint = hint_of(call, case);
+    let elements = case.methods();
+    Hinted { elements, hint }
 }
 
 /// Adds the least and the greatest number of elements that such an iterator hints at.
-pub fn size_hint(
-    arguments: &mut Arguments<'_>,
-    answer: &mut CaseAnswer,
-) -> Result<(), CaseFailure> {
-    let (least, greatest) = hinted_names("size_hint", arguments)?.size_hint();
-    answer.word(least)?;
-    Ok(answer.option(greatest)?)
+pub fn size_hint(case: &mut Case<'_>) -> Made {
+    let (least, greatest) = hinted_names("size_hint", case).size_hint();
+    case.add(least);
+    case.add_option(greatest);
+    Ok(())
 }
 
 // The header of lines from an iterator with this hint.
@@ -106,14 +99,10 @@ fn decoded<H: Header>(
 }
 
 /// Adds the header of the lines after the first word, from an iterator with the hint of that word.
-pub fn decode_hinted<H: Header + Getters<P>, P>(
-    arguments: &mut Arguments<'_>,
-    answer: &mut CaseAnswer,
-) -> Result<(), CaseFailure> {
-    let hint = read_hint(arguments)?;
-    let lines = arguments.lines()?;
-    let header: H = decoded(arguments.alloc(), &lines, hint)??;
-    show(&header, answer)
+pub fn decode_hinted<H: Header + Getters<P>, P>(case: &mut Case<'_>) -> Made {
+    let hint = read_hint(case);
+    let lines = case.lines();
+    show_result(decoded::<H>(case.alloc(), &lines, hint)?, case)
 }
 
 // The encoding of what was decoded, or none if it was rejected.
@@ -129,27 +118,21 @@ fn rewritten<H: Header>(
 }
 
 // The words are a text, how often each line has it, and how many lines there are.
-fn repeated(arguments: &mut Arguments<'_>) -> Result<Vec<HeaderValue>, CaseFailure> {
-    let alloc = arguments.alloc();
-    let text = arguments.bytes()?;
-    let length = usize::try_from(arguments.number()?).map_err(|_| CaseFailure::NoCall)?;
-    let line = text.repeat(alloc, length)?;
+fn repeated(case: &mut Case<'_>) -> Result<Vec<HeaderValue>, CaseFailure> {
+    let alloc = case.alloc();
+    let line = case.bytes().repeat(alloc, case.size())?;
     let mut lines = Vec::new(alloc);
-    for _ in 0..arguments.number()? {
-        let value = HeaderValue::from_bytes(alloc, &line)?;
-        lines.push(value)?;
+    for _ in 0..case.number() {
+        lines.push(HeaderValue::from_bytes(alloc, &line)?)?;
     }
     Ok(lines)
 }
 
 /// Adds `decoded` if such lines decode to a header, else `rejected`. `(harmful)` if that depends on what
 /// the iterator hints, or if the encoding of the header doesn't decode to it.
-pub fn harmless<H: Header>(
-    arguments: &mut Arguments<'_>,
-    answer: &mut CaseAnswer,
-) -> Result<(), CaseFailure> {
-    let alloc = arguments.alloc();
-    let lines = repeated(arguments)?;
+pub fn harmless<H: Header>(case: &mut Case<'_>) -> Made {
+    let alloc = case.alloc();
+    let lines = repeated(case)?;
     let wanted = rewritten::<H>(alloc, decode_values(alloc, &lines))?;
     let unhinted = rewritten::<H>(alloc, decoded(alloc, &lines, Hint::Unknown)?)?;
     let overhinted = rewritten::<H>(alloc, decoded(alloc, &lines, Hint::TooMuch)?)?;
@@ -158,23 +141,18 @@ pub fn harmless<H: Header>(
         let again = rewritten::<H>(alloc, decode_values(alloc, written))?;
         is_harmless &= again == wanted;
     }
-    let word = match wanted {
+    case.say(match wanted {
         _ if !is_harmless => "(harmful)",
         Some(_) => "decoded",
         None => "rejected",
-    };
-    Ok(answer.word(word)?)
+    })
 }
 
 /// Adds the lengths of the lines that encode the header that such lines decode to.
-pub fn lengths<H: Header>(
-    arguments: &mut Arguments<'_>,
-    answer: &mut CaseAnswer,
-) -> Result<(), CaseFailure> {
-    let alloc = arguments.alloc();
-    let header: H = decode_values(alloc, &repeated(arguments)?)?;
-    for line in written(alloc, &header)?.iter() {
-        answer.word(line.len())?;
+pub fn lengths<H: Header>(case: &mut Case<'_>) -> Made {
+    let header: H = decode_values(case.alloc(), &repeated(case)?)?;
+    for line in written(case.alloc(), &header)?.iter() {
+        case.add(line.len());
     }
     Ok(())
 }

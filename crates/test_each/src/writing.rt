@@ -2,7 +2,7 @@
 use crate::replay::{Getters, copy_of};
 use headers::{Header, HeaderValue, decode_values};
 use std::alloc::{AllocError, Global};
-use test_rows::{Arguments, CaseAnswer, CaseFailure};
+use test_rows::{Case, CaseFailure, Made};
 
 /// The lines that a header writes.
 pub fn written<H: Header>(alloc: Global, header: &H) -> Result<Vec<HeaderValue>, AllocError> {
@@ -41,63 +41,59 @@ pub fn lines_behind(lines: &[HeaderValue]) -> Option<&[HeaderValue]> {
 }
 
 // Adds lines, and whether all of them are marked sensitive, or some and not others.
-fn add_lines(lines: &[HeaderValue], answer: &mut CaseAnswer) -> Result<(), AllocError> {
-    if lines.is_empty() {
-        return answer.none();
-    }
+fn add_lines(lines: &[HeaderValue], case: &mut Case<'_>) {
     let mut marked: usize = 0;
     for line in lines {
-        answer.bytes(line.as_bytes())?;
+        case.add_bytes(line.as_bytes());
         marked = marked.saturating_add(line.is_sensitive().into());
     }
-    match marked {
-        0 => Ok(()),
-        _ if marked == lines.len() => answer.word("(sensitive)"),
-        _ => answer.word("(mixed)"),
+    if lines.is_empty() {
+        case.add_none();
+    } else if marked == lines.len() {
+        case.add("(sensitive)");
+    } else if marked > 0 {
+        case.add("(mixed)");
     }
 }
 
 /// Adds the lines that a header writes after a value, and whether they are marked sensitive.
-pub fn add_written<H: Header>(header: &H, answer: &mut CaseAnswer) -> Result<(), AllocError> {
-    let mut lines = value_before(answer.alloc())?;
-    header.encode(answer.alloc(), &mut lines)?;
-    match lines_behind(&lines) {
-        Some(behind) => add_lines(behind, answer),
-        None => {
-            answer.word("(changed)")?;
-            add_lines(&lines, answer)
-        }
-    }
-}
-
-/// Adds the words of a header, and, if those of its copy are others, these after them.
-pub fn add_with_copy(
-    of_header: &CaseAnswer,
-    of_copy: &CaseAnswer,
-    answer: &mut CaseAnswer,
-) -> Result<(), AllocError> {
-    answer.word(of_header.as_str())?;
-    if of_copy.as_str() != of_header.as_str() {
-        answer.word("(copy)")?;
-        answer.word(of_copy.as_str())?;
+pub fn add_written<H: Header>(header: &H, case: &mut Case<'_>) -> Made {
+    let mut lines = value_before(case.alloc())?;
+    header.encode(case.alloc(), &mut lines)?;
+    if let Some(behind) = lines_behind(&lines) {
+        add_lines(behind, case);
+    } else {
+        case.add("(changed)");
+        add_lines(&lines, case);
     }
     Ok(())
 }
 
-/// Adds the lines that encode the header that marked lines decode to, and those of its copy.
-pub fn secret<H: Header + Getters<P>, P>(
-    arguments: &mut Arguments<'_>,
-    answer: &mut CaseAnswer,
-) -> Result<(), CaseFailure> {
-    let alloc = arguments.alloc();
-    let mut lines = arguments.lines()?;
+/// Adds the words of a header, and, if those of its copy are others, these after them.
+pub fn add_with_copy(of_header: &Case<'_>, of_copy: &Case<'_>, case: &mut Case<'_>) {
+    case.append(of_header);
+    if of_copy.as_str() != of_header.as_str() {
+        case.add("(copy)");
+        case.append(of_copy);
+    }
+}
+
+/// The header of all words that are left, as lines that are marked sensitive.
+pub fn header_of_marked<H: Header>(case: &mut Case<'_>) -> Result<H, CaseFailure> {
+    let mut lines = case.lines();
     for line in lines.iter_mut() {
         line.set_sensitive(true);
     }
-    let header: H = decode_values(alloc, &lines)?;
-    let mut of_header = CaseAnswer::new(alloc);
+    Ok(decode_values(case.alloc(), &lines)?)
+}
+
+/// Adds the lines that encode the header that marked lines decode to, and those of its copy.
+pub fn secret<H: Header + Getters<P>, P>(case: &mut Case<'_>) -> Made {
+    let alloc = case.alloc();
+    let header: H = header_of_marked(case)?;
+    let (mut of_header, mut of_copy) = (Case::new(alloc, ""), Case::new(alloc, ""));
     add_written(&header, &mut of_header)?;
-    let mut of_copy = CaseAnswer::new(alloc);
     add_written(&copy_of(alloc, &header)?, &mut of_copy)?;
-    Ok(add_with_copy(&of_header, &of_copy, answer)?)
+    add_with_copy(&of_header, &of_copy, case);
+    Ok(())
 }

@@ -1,40 +1,36 @@
 //! Calls of `Cache-Control`.
 use crate::Http;
 use headers::{CacheControl, equal_by_encoding};
+use std::alloc::AllocError;
 use std::time::Duration;
-use test_each::{Getters, say, show_back_result};
-use test_rows::{Arguments, CaseAnswer, CaseFailure};
+use test_each::{Getters, show_back_result};
+use test_rows::{Calls, Case, CaseFailure, Made};
+
+// What getters of a value give.
+macro_rules! given {
+    ($value:ident: $($getter:ident)+) => {
+        [$($value.$getter()),+]
+    };
+}
 
 impl Getters<Http> for CacheControl {
-    fn getters(&self, answer: &mut CaseAnswer) -> Result<CacheControl, CaseFailure> {
-        for flag in [
-            self.no_cache(),
-            self.no_store(),
-            self.no_transform(),
-            self.only_if_cached(),
-            self.public(),
-            self.private(),
-            self.immutable(),
-            self.must_revalidate(),
-            self.must_understand(),
-        ] {
-            answer.word(flag)?;
+    fn getters(&self, case: &mut Case<'_>) -> Result<CacheControl, AllocError> {
+        let value = self;
+        for flag in given!(value: no_cache no_store no_transform only_if_cached public private immutable must_revalidate
+            must_understand)
+        {
+            case.add(flag);
         }
-        for number in [
-            self.max_age(),
-            self.max_stale(),
-            self.min_fresh(),
-            self.s_max_age(),
-        ] {
-            answer.option(number.map(|number| number.as_secs()))?;
+        for number in given!(value: max_age max_stale min_fresh s_max_age) {
+            case.add_option(number.map(|number| number.as_secs()));
         }
-        Ok(self.clone()?)
+        self.clone()
     }
 }
 
 // The value with one more setter, if there is such a one.
-fn with_setter(value: CacheControl, setter: &str, seconds: u64) -> Option<CacheControl> {
-    Some(match setter {
+fn with_setter(value: CacheControl, setter: &str) -> Result<CacheControl, CaseFailure> {
+    Ok(match setter {
         "no_cache" => value.with_no_cache(),
         "no_store" => value.with_no_store(),
         "no_transform" => value.with_no_transform(),
@@ -44,38 +40,51 @@ fn with_setter(value: CacheControl, setter: &str, seconds: u64) -> Option<CacheC
         "immutable" => value.with_immutable(),
         "must_revalidate" => value.with_must_revalidate(),
         "must_understand" => value.with_must_understand(),
-        "max_age" => value.with_max_age(Duration::from_secs(seconds)),
-        "max_stale" => value.with_max_stale(Duration::from_secs(seconds)),
-        "min_fresh" => value.with_min_fresh(Duration::from_secs(seconds)),
-        "s_max_age" => value.with_s_max_age(Duration::from_secs(seconds)),
-        _ => return None,
+        _ => return Err(CaseFailure::NoCall),
+    })
+}
+
+// The same of a setter of a number.
+fn with_number(
+    value: CacheControl,
+    setter: &str,
+    number: &str,
+) -> Result<CacheControl, CaseFailure> {
+    let seconds = Duration::from_secs(number.parse()?);
+    Ok(match setter {
+        "max_age" => value.with_max_age(seconds),
+        "max_stale" => value.with_max_stale(seconds),
+        "min_fresh" => value.with_min_fresh(seconds),
+        "s_max_age" => value.with_s_max_age(seconds),
+        _ => return Err(CaseFailure::NoCall),
     })
 }
 
 // The value with the setters of the words, in their order.
-fn with_setters(arguments: &mut Arguments<'_>) -> Result<CacheControl, CaseFailure> {
+fn with_setters(words: &str) -> Result<CacheControl, CaseFailure> {
     let mut value = CacheControl::new();
-    for word in arguments.rest().split_whitespace() {
-        let (setter, number) = word.split_once('=').unwrap_or((word, "0"));
-        let seconds = number.parse().map_err(|_| CaseFailure::NoCall)?;
-        value = with_setter(value, setter, seconds).ok_or(CaseFailure::NoCall)?;
+    for word in words.split_whitespace() {
+        value = match word.split_once('=') {
+            Some((setter, number)) => with_number(value, setter, number)?,
+            None => with_setter(value, word)?,
+        };
     }
     Ok(value)
 }
 
-/// Adds the answer of a call of its own.
-pub fn call_caching(
-    name: &str,
-    arguments: &mut Arguments<'_>,
-    answer: &mut CaseAnswer,
-) -> Result<(), CaseFailure> {
-    match name {
-        "CacheControl.with" => show_back_result(with_setters(arguments), answer),
-        "CacheControl.equal_by_encoding" => {
-            let first: CacheControl = arguments.header()?;
-            let second: CacheControl = arguments.header()?;
-            say(equal_by_encoding(&first, &second), answer)
+/// The calls of its own.
+pub struct OfCaching;
+
+impl Calls for OfCaching {
+    fn make(name: &str, case: &mut Case<'_>) -> Made {
+        match name {
+            "CacheControl.with" => show_back_result(with_setters(case.rest()), case),
+            "CacheControl.equal_by_encoding" => {
+                let first: CacheControl = case.header()?;
+                let second: CacheControl = case.header()?;
+                case.say(equal_by_encoding(&first, &second))
+            }
+            _ => Err(CaseFailure::NoCall),
         }
-        _ => Err(CaseFailure::NoCall),
     }
 }

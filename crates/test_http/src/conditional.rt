@@ -3,32 +3,32 @@ use crate::Http;
 use headers::{ETag, Header, IfMatch, IfNoneMatch, IfRange, LastModified};
 use headers_conditional::{into_tag, tag_of};
 use std::alloc::{AllocError, Global};
-use test_each::{Getters, say, show, show_back_result, show_made};
-use test_rows::{Arguments, CaseAnswer, CaseFailure};
+use test_each::{Getters, show, show_back_result, show_made};
+use test_rows::{Calls, Case, CaseFailure, Made};
 
 impl Getters<Http> for ETag {
-    fn getters(&self, answer: &mut CaseAnswer) -> Result<ETag, CaseFailure> {
-        answer.word(self.is_weak())?;
-        Ok(self.clone(answer.alloc())?)
+    fn getters(&self, case: &mut Case<'_>) -> Result<ETag, AllocError> {
+        case.add(self.is_weak());
+        self.clone(case.alloc())
     }
 }
 
 impl Getters<Http> for IfMatch {
-    fn getters(&self, answer: &mut CaseAnswer) -> Result<IfMatch, CaseFailure> {
-        answer.word(self.is_any())?;
-        Ok(self.clone(answer.alloc())?)
+    fn getters(&self, case: &mut Case<'_>) -> Result<IfMatch, AllocError> {
+        case.add(self.is_any());
+        self.clone(case.alloc())
     }
 }
 
 impl Getters<Http> for IfNoneMatch {
-    fn getters(&self, answer: &mut CaseAnswer) -> Result<IfNoneMatch, CaseFailure> {
-        Ok(self.clone(answer.alloc())?)
+    fn getters(&self, case: &mut Case<'_>) -> Result<IfNoneMatch, AllocError> {
+        self.clone(case.alloc())
     }
 }
 
 impl Getters<Http> for IfRange {
-    fn getters(&self, answer: &mut CaseAnswer) -> Result<IfRange, CaseFailure> {
-        Ok(self.clone(answer.alloc())?)
+    fn getters(&self, case: &mut Case<'_>) -> Result<IfRange, AllocError> {
+        self.clone(case.alloc())
     }
 }
 
@@ -65,95 +65,78 @@ fn passes<C: Condition>(alloc: Global, tag: &ETag, other: &ETag) -> Result<bool,
 }
 
 // What two tags are to each other, by each condition.
-fn compare(arguments: &mut Arguments<'_>, answer: &mut CaseAnswer) -> Result<(), CaseFailure> {
-    let alloc = arguments.alloc();
-    let first = arguments.tag()?;
-    let second = arguments.tag()?;
-    answer.word(passes::<IfMatch>(alloc, &first, &second)?)?;
-    answer.word(passes::<IfNoneMatch>(alloc, &first, &second)?)?;
-    say(
-        IfRange::etag(first).is_modified(Some(&second), None),
-        answer,
-    )
+fn compare(case: &mut Case<'_>) -> Made {
+    let alloc = case.alloc();
+    let first: ETag = case.header()?;
+    let second: ETag = case.header()?;
+    case.add(passes::<IfMatch>(alloc, &first, &second)?);
+    case.add(passes::<IfNoneMatch>(alloc, &first, &second)?);
+    case.say(IfRange::etag(first).is_modified(Some(&second), None))
 }
 
-// Whether the condition of the lines after a tag passes for it.
-fn call_passes<C: Condition>(
-    arguments: &mut Arguments<'_>,
-    answer: &mut CaseAnswer,
-) -> Result<(), CaseFailure> {
-    let tag = arguments.tag()?;
-    let header: C = arguments.header_of_rest()?;
-    say(header.passes(&tag), answer)
-}
-
-/// Adds the answer of a call of its own of a condition on tags.
-pub fn call_condition(
-    kind: &str,
-    word: &str,
-    arguments: &mut Arguments<'_>,
-    answer: &mut CaseAnswer,
-) -> Result<(), CaseFailure> {
-    match kind {
-        "IfMatch" => call_any_condition::<IfMatch>(word, arguments, answer),
-        "IfNoneMatch" => call_any_condition::<IfNoneMatch>(word, arguments, answer),
-        _ => Err(CaseFailure::NoCall),
+fn call_condition<C: Condition + Getters<Http>>(word: &str, case: &mut Case<'_>) -> Made {
+    if word == "any" {
+        return show_made(C::any(), case);
     }
-}
-
-fn call_any_condition<C: Condition + Getters<Http>>(
-    word: &str,
-    arguments: &mut Arguments<'_>,
-    answer: &mut CaseAnswer,
-) -> Result<(), CaseFailure> {
+    let tag: ETag = case.header()?;
     match word {
-        "any" => show_made(C::any(), answer),
-        "from_etag" => show_made(C::from(arguments.tag()?), answer),
-        "any_passes" => say(C::any().passes(&arguments.tag()?), answer),
-        "precondition_passes" => call_passes::<C>(arguments, answer),
+        "from_etag" => show_made(C::from(tag), case),
+        "any_passes" => case.say(C::any().passes(&tag)),
+        // Whether the condition of the lines after a tag passes for it.
+        "precondition_passes" => {
+            let header: C = case.header_of_rest()?;
+            case.say(header.passes(&tag))
+        }
         _ => Err(CaseFailure::NoCall),
     }
 }
 
 // The tag and the second that a header names.
-fn show_named(header: &IfRange, answer: &mut CaseAnswer) -> Result<(), CaseFailure> {
-    match header.named_tag(answer.alloc())? {
-        Some(tag) => show(&tag, answer)?,
-        None => answer.none()?,
+fn show_named(header: &IfRange, case: &mut Case<'_>) -> Made {
+    match header.named_tag(case.alloc())? {
+        Some(tag) => show(&tag, case)?,
+        None => case.add_none(),
     }
-    Ok(answer.option(header.named_date())?)
+    case.add_option(header.named_date());
+    Ok(())
 }
 
 // Whether the target with a tag and a second is modified by the header.
-fn is_modified(arguments: &mut Arguments<'_>, answer: &mut CaseAnswer) -> Result<(), CaseFailure> {
-    let header: IfRange = arguments.header()?;
-    let tag = arguments.optional_tag()?;
-    let date = arguments.optional_date()?;
-    let date = date.map(LastModified::from_unix_secs);
-    say(header.is_modified(tag.as_ref(), date.as_ref()), answer)
+fn is_modified(case: &mut Case<'_>) -> Made {
+    let header: IfRange = case.header()?;
+    let tag = case.optional_tag()?;
+    let date = case.optional_date().map(LastModified::from_unix_secs);
+    case.say(header.is_modified(tag.as_ref(), date.as_ref()))
 }
 
 // The opaque part of a tag, and its line.
-fn show_parts(tag: ETag, answer: &mut CaseAnswer) -> Result<(), CaseFailure> {
-    answer.bytes(tag_of(&tag).view().tag())?;
-    Ok(answer.bytes(into_tag(tag).into_value().as_bytes())?)
+fn show_parts(tag: ETag, case: &mut Case<'_>) -> Made {
+    case.add_bytes(tag_of(&tag).view().tag());
+    case.add_bytes(into_tag(tag).into_value().as_bytes());
+    Ok(())
 }
 
-/// Adds the answer of another call of these headers.
-pub fn call_conditional(
-    name: &str,
-    arguments: &mut Arguments<'_>,
-    answer: &mut CaseAnswer,
-) -> Result<(), CaseFailure> {
-    let alloc = arguments.alloc();
-    match name {
-        "ETag.from_str" => show_back_result(ETag::from_str(alloc, &arguments.text()?), answer),
-        "ETag.compare" => compare(arguments, answer),
-        "ETag.parts" => show_parts(arguments.tag()?, answer),
-        "IfRange.etag" => show_made(IfRange::etag(arguments.tag()?), answer),
-        "IfRange.date" => show_made(IfRange::date(arguments.date()?), answer),
-        "IfRange.named" => show_named(&arguments.header()?, answer),
-        "IfRange.is_modified" => is_modified(arguments, answer),
-        _ => Err(CaseFailure::NoCall),
+/// The calls of these headers of their own.
+pub struct OfConditions;
+
+impl Calls for OfConditions {
+    fn make(name: &str, case: &mut Case<'_>) -> Made {
+        let alloc = case.alloc();
+        if let Some(word) = name.strip_prefix("IfMatch.") {
+            return call_condition::<IfMatch>(word, case);
+        }
+        if let Some(word) = name.strip_prefix("IfNoneMatch.") {
+            return call_condition::<IfNoneMatch>(word, case);
+        }
+        match name {
+            "ETag.from_str" => show_back_result(ETag::from_str(alloc, &case.text()), case),
+            "ETag.compare" => compare(case),
+            "ETag.parts" => show_parts(case.header()?, case),
+            "IfRange.etag" => show_made(IfRange::etag(case.header()?), case),
+            "IfRange.date" => show_made(IfRange::date(case.date()), case),
+            "IfRange.named" => show_named(&case.header()?, case),
+            "IfRange.is_modified" => is_modified(case),
+            _ => Err(CaseFailure::NoCall),
+        }
     }
 }

@@ -1,72 +1,67 @@
 //! Calls of `Content-Type` and of media types.
 use crate::Http;
 use headers::{ContentType, Mime};
-use test_each::{Getters, say, show_made, show_result, writes};
-use test_rows::{Arguments, CaseAnswer, CaseFailure};
+use std::alloc::AllocError;
+use test_each::{Getters, show_made, show_result, writes};
+use test_rows::{Calls, Case, CaseFailure, Made};
 
 impl Getters<Http> for ContentType {
-    fn getters(&self, answer: &mut CaseAnswer) -> Result<ContentType, CaseFailure> {
-        let alloc = answer.alloc();
+    fn getters(&self, case: &mut Case<'_>) -> Result<ContentType, AllocError> {
+        let alloc = case.alloc();
         let mime = Mime::from(self.clone(alloc)?);
-        answer.bytes(mime.as_str().as_bytes())?;
+        case.add_bytes(mime.as_str().as_bytes());
         let is_displayed = writes(alloc, self, self.to_string(alloc)?.as_str())?;
-        answer.word(is_displayed && mime.to_string(alloc)?.as_str() == mime.as_str())?;
-        Ok(self.clone(alloc)?)
+        case.add(is_displayed && mime.to_string(alloc)?.as_str() == mime.as_str());
+        self.clone(alloc)
     }
 }
 
 // The media type of the next word.
-fn read_mime(arguments: &mut Arguments<'_>) -> Result<Mime, CaseFailure> {
-    Ok(Mime::parse(arguments.alloc(), &arguments.text()?)?)
+fn read_mime(case: &mut Case<'_>) -> Result<Mime, CaseFailure> {
+    Ok(Mime::parse(case.alloc(), &case.text())?)
 }
 
-// The content types that have names.
-fn named_type(name: &str) -> Option<ContentType> {
-    Some(match name {
-        "json" => ContentType::json(),
-        "text" => ContentType::text(),
-        "text_utf8" => ContentType::text_utf8(),
-        "html" => ContentType::html(),
-        "xml" => ContentType::xml(),
-        "form_url_encoded" => ContentType::form_url_encoded(),
-        "jpeg" => ContentType::jpeg(),
-        "png" => ContentType::png(),
-        "octet_stream" => ContentType::octet_stream(),
-        _ => return None,
-    })
-}
+/// The calls of `Content-Type` of its own, among them the content types that have names.
+pub struct OfContent;
 
-/// Adds the answer of a call of `Content-Type` of its own.
-pub fn call_content(
-    word: &str,
-    arguments: &mut Arguments<'_>,
-    answer: &mut CaseAnswer,
-) -> Result<(), CaseFailure> {
-    let alloc = arguments.alloc();
-    match word {
-        "from_str" => show_result(ContentType::from_str(alloc, &arguments.text()?), answer),
-        "from_mime" => show_made(ContentType::from(read_mime(arguments)?), answer),
-        _ => show_result(named_type(word).ok_or(CaseFailure::NoCall), answer),
+impl Calls for OfContent {
+    fn make(name: &str, case: &mut Case<'_>) -> Made {
+        let made = match name.strip_prefix("ContentType.").unwrap_or("") {
+            "from_str" => {
+                return show_result(ContentType::from_str(case.alloc(), &case.text()), case);
+            }
+            "from_mime" => ContentType::from(read_mime(case)?),
+            "json" => ContentType::json(),
+            "text" => ContentType::text(),
+            "text_utf8" => ContentType::text_utf8(),
+            "html" => ContentType::html(),
+            "xml" => ContentType::xml(),
+            "form_url_encoded" => ContentType::form_url_encoded(),
+            "jpeg" => ContentType::jpeg(),
+            "png" => ContentType::png(),
+            "octet_stream" => ContentType::octet_stream(),
+            _ => return Err(CaseFailure::NoCall),
+        };
+        show_made(made, case)
     }
 }
 
-fn show_mime(mime: &Mime, answer: &mut CaseAnswer) -> Result<(), CaseFailure> {
-    answer.bytes(mime.as_str().as_bytes())?;
-    Ok(answer.word(mime.to_string(answer.alloc())?.as_str() == mime.as_str())?)
+fn show_mime(mime: &Mime, case: &mut Case<'_>) -> Made {
+    case.add_bytes(mime.as_str().as_bytes());
+    case.say(mime.to_string(case.alloc())?.as_str() == mime.as_str())
 }
 
 // Adds how a media type is printed: plainly, at a width of 12 to the right, and cut to 4 characters.
-fn format_mime(arguments: &mut Arguments<'_>, answer: &mut CaseAnswer) -> Result<(), CaseFailure> {
-    let alloc = arguments.alloc();
-    let mime = read_mime(arguments)?;
-    answer.bytes(format!(in alloc; "{mime}")?.as_bytes())?;
-    answer.bytes(format!(in alloc; "{mime:>12}")?.as_bytes())?;
-    Ok(answer.bytes(format!(in alloc; "{mime:.4}")?.as_bytes())?)
+fn format_mime(mime: &Mime, case: &mut Case<'_>) -> Made {
+    case.add_text(mime);
+    case.add_text(format_args!("{mime:>12}"));
+    case.add_text(format_args!("{mime:.4}"));
+    Ok(())
 }
 
 // The media types that have names.
-fn named(name: &str) -> Option<Mime> {
-    Some(match name {
+fn named(name: &str) -> Result<Mime, CaseFailure> {
+    Ok(match name {
         "APPLICATION_JSON" => Mime::APPLICATION_JSON,
         "TEXT_PLAIN" => Mime::TEXT_PLAIN,
         "TEXT_PLAIN_UTF_8" => Mime::TEXT_PLAIN_UTF_8,
@@ -76,32 +71,35 @@ fn named(name: &str) -> Option<Mime> {
         "IMAGE_JPEG" => Mime::IMAGE_JPEG,
         "IMAGE_PNG" => Mime::IMAGE_PNG,
         "APPLICATION_OCTET_STREAM" => Mime::APPLICATION_OCTET_STREAM,
-        _ => return None,
+        _ => return Err(CaseFailure::NoCall),
     })
 }
 
 // Whether a media type equals a constant, as its copy does.
-fn equals(mime: &Mime, other: &Mime, answer: &mut CaseAnswer) -> Result<(), CaseFailure> {
+fn equals(mime: &Mime, other: &Mime, case: &mut Case<'_>) -> Made {
     let is_equal = mime == other;
-    if (mime.clone(answer.alloc())? == *other) != is_equal {
-        answer.word("(copy)")?;
+    if (mime.clone(case.alloc())? == *other) != is_equal {
+        case.add("(copy)");
     }
-    say(is_equal, answer)
+    case.say(is_equal)
 }
 
-/// Adds the answer of a call of a media type.
-pub fn call_mime(
-    word: &str,
-    arguments: &mut Arguments<'_>,
-    answer: &mut CaseAnswer,
-) -> Result<(), CaseFailure> {
-    match word {
-        "equals" => {
-            let other = named(arguments.word()?).ok_or(CaseFailure::NoCall)?;
-            equals(&read_mime(arguments)?, &other, answer)
+/// The calls of a media type.
+pub struct OfMime;
+
+impl Calls for OfMime {
+    fn make(name: &str, case: &mut Case<'_>) -> Made {
+        let Some(word) = name.strip_prefix("Mime.") else {
+            return Err(CaseFailure::NoCall);
+        };
+        match word {
+            "equals" => {
+                let other = named(case.word())?;
+                equals(&read_mime(case)?, &other, case)
+            }
+            "formats" => format_mime(&read_mime(case)?, case),
+            "parse" => show_mime(&read_mime(case)?, case),
+            _ => show_mime(&named(word)?, case),
         }
-        "formats" => format_mime(arguments, answer),
-        "parse" => show_mime(&read_mime(arguments)?, answer),
-        _ => show_mime(&named(word).ok_or(CaseFailure::NoCall)?, answer),
     }
 }

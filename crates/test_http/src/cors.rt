@@ -6,62 +6,60 @@ use headers::{
 };
 use http::Method;
 use http::method::MethodError;
+use std::alloc::AllocError;
 use test_each::{Getters, show_made, show_result};
-use test_rows::{Arguments, CaseAnswer, CaseFailure};
+use test_rows::{Calls, Case, CaseFailure, Made};
 
 impl Getters<Http> for AccessControlAllowCredentials {
-    fn getters(
-        &self,
-        answer: &mut CaseAnswer,
-    ) -> Result<AccessControlAllowCredentials, CaseFailure> {
-        answer.word(*self == AccessControlAllowCredentials)?;
-        Ok(self.clone()?)
+    fn getters(&self, case: &mut Case<'_>) -> Result<AccessControlAllowCredentials, AllocError> {
+        case.add(*self == AccessControlAllowCredentials);
+        self.clone()
     }
 }
 
 impl Getters<Http> for AccessControlAllowOrigin {
-    fn getters(&self, answer: &mut CaseAnswer) -> Result<AccessControlAllowOrigin, CaseFailure> {
+    fn getters(&self, case: &mut Case<'_>) -> Result<AccessControlAllowOrigin, AllocError> {
         match self.origin() {
-            Some(origin) => show_origin(origin, self, answer)?,
-            None => answer.none()?,
+            Some(origin) => show_origin(origin, self, case)?,
+            None => case.add_none(),
         }
-        Ok(self.clone(answer.alloc())?)
+        self.clone(case.alloc())
     }
 }
 
 impl Getters<Http> for AccessControlRequestMethod {
-    fn getters(&self, answer: &mut CaseAnswer) -> Result<AccessControlRequestMethod, CaseFailure> {
-        let method = Method::from(self.clone(answer.alloc())?);
-        answer.bytes(method.as_str().as_bytes())?;
-        Ok(self.clone(answer.alloc())?)
+    fn getters(&self, case: &mut Case<'_>) -> Result<AccessControlRequestMethod, AllocError> {
+        let method = Method::from(self.clone(case.alloc())?);
+        case.add_bytes(method.as_str().as_bytes());
+        self.clone(case.alloc())
     }
 }
 
 // The header of a method.
-fn of_method(arguments: &mut Arguments<'_>) -> Result<AccessControlRequestMethod, CaseFailure> {
-    match Method::from_bytes(arguments.alloc(), &arguments.bytes()?) {
+fn of_method(case: &mut Case<'_>) -> Result<AccessControlRequestMethod, CaseFailure> {
+    match Method::from_bytes(case.alloc(), &case.bytes()) {
         Ok(method) => Ok(AccessControlRequestMethod::from(method)),
         Err(MethodError::Invalid) => Err(CaseFailure::Refused),
         Err(MethodError::OutOfMemory) => Err(CaseFailure::Memory),
     }
 }
 
-/// Adds the answer of a call of these headers of its own.
-pub fn call_cors(
-    name: &str,
-    arguments: &mut Arguments<'_>,
-    answer: &mut CaseAnswer,
-) -> Result<(), CaseFailure> {
-    let alloc = arguments.alloc();
-    match name {
-        "AccessControlAllowCredentials.unit" => show_made(AccessControlAllowCredentials, answer),
-        "AccessControlAllowOrigin.ANY" => show_made(AccessControlAllowOrigin::ANY, answer),
-        "AccessControlAllowOrigin.NULL" => show_made(AccessControlAllowOrigin::NULL, answer),
-        "AccessControlAllowOrigin.try_from_str" => {
-            let text = arguments.text()?;
-            show_result(AccessControlAllowOrigin::try_from_str(alloc, &text), answer)
+/// The calls of these headers of their own.
+pub struct OfCors;
+
+impl Calls for OfCors {
+    fn make(name: &str, case: &mut Case<'_>) -> Made {
+        match name {
+            "AccessControlAllowCredentials.unit" => show_made(AccessControlAllowCredentials, case),
+            "AccessControlAllowOrigin.ANY" => show_made(AccessControlAllowOrigin::ANY, case),
+            "AccessControlAllowOrigin.NULL" => show_made(AccessControlAllowOrigin::NULL, case),
+            "AccessControlAllowOrigin.try_from_str" => {
+                let text = case.text();
+                let made = AccessControlAllowOrigin::try_from_str(case.alloc(), &text);
+                show_result(made, case)
+            }
+            "AccessControlRequestMethod.from_method" => show_result(of_method(case), case),
+            _ => Err(CaseFailure::NoCall),
         }
-        "AccessControlRequestMethod.from_method" => show_result(of_method(arguments), answer),
-        _ => Err(CaseFailure::NoCall),
     }
 }

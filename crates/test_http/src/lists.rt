@@ -2,189 +2,192 @@
 use crate::Http;
 use headers::{
     AccessControlAllowHeaders, AccessControlAllowMethods, AccessControlExposeHeaders,
-    AccessControlRequestHeaders, Allow, Connection, ContentEncoding, Cookie, HeaderName, Range, Te,
+    AccessControlRequestHeaders, Allow, Connection, ContentEncoding, Cookie, Range, Te,
     TransferEncoding, Upgrade, Vary,
 };
 use headers_names::{ListField, ListHeader, ListItem};
-use test_each::{
-    Getters, debug_secret, hinted_methods, hinted_names, say, show_made, show_names, show_result,
-};
-use test_rows::{Arguments, CaseAnswer, CaseFailure};
+use std::alloc::AllocError;
+use test_each::{Getters, hinted_methods, hinted_names, show_made, show_names, show_result};
+use test_rows::{Calls, Case, CaseFailure, Made};
 
 // Lists of field names or of methods.
 impl<N: ListField> Getters<Http> for ListHeader<N> {
-    fn getters(&self, answer: &mut CaseAnswer) -> Result<ListHeader<N>, CaseFailure> {
-        let mut lines = Vec::new(answer.alloc());
-        for item in self.iter(answer.alloc()) {
-            lines.push(item?.into_line(answer.alloc())?)?;
+    fn getters(&self, case: &mut Case<'_>) -> Result<ListHeader<N>, AllocError> {
+        let mut lines = Vec::new(case.alloc());
+        for item in self.iter(case.alloc()) {
+            lines.push(item?.into_line(case.alloc())?)?;
         }
-        answer.list(lines.as_slice())?;
-        Ok(self.clone(answer.alloc())?)
+        case.add_list(lines.as_slice());
+        self.clone(case.alloc())
     }
 }
 
 impl Getters<Http> for AccessControlAllowHeaders {
-    fn getters(&self, answer: &mut CaseAnswer) -> Result<AccessControlAllowHeaders, CaseFailure> {
-        show_names(self.iter(answer.alloc()), answer)?;
-        Ok(self.clone(answer.alloc())?)
+    fn getters(&self, case: &mut Case<'_>) -> Result<AccessControlAllowHeaders, AllocError> {
+        show_names(self.iter(case.alloc()), case)?;
+        self.clone(case.alloc())
     }
 }
 
 impl Getters<Http> for Vary {
-    fn getters(&self, answer: &mut CaseAnswer) -> Result<Vary, CaseFailure> {
-        answer.word(self.is_any())?;
-        let names: Vec<&str> = self.iter_strs().collect(answer.alloc())?;
-        answer.list(names.as_slice())?;
-        Ok(self.clone(answer.alloc())?)
+    fn getters(&self, case: &mut Case<'_>) -> Result<Vary, AllocError> {
+        case.add(self.is_any());
+        let names: Vec<&str> = self.iter_strs().collect(case.alloc())?;
+        case.add_list(names.as_slice());
+        self.clone(case.alloc())
     }
 }
 
 impl Getters<Http> for Connection {
-    fn getters(&self, answer: &mut CaseAnswer) -> Result<Connection, CaseFailure> {
-        Ok(self.clone(answer.alloc())?)
+    fn getters(&self, case: &mut Case<'_>) -> Result<Connection, AllocError> {
+        self.clone(case.alloc())
     }
 }
 
 impl Getters<Http> for ContentEncoding {
-    fn getters(&self, answer: &mut CaseAnswer) -> Result<ContentEncoding, CaseFailure> {
-        Ok(self.clone(answer.alloc())?)
+    fn getters(&self, case: &mut Case<'_>) -> Result<ContentEncoding, AllocError> {
+        self.clone(case.alloc())
     }
 }
 
 impl Getters<Http> for Te {
-    fn getters(&self, answer: &mut CaseAnswer) -> Result<Te, CaseFailure> {
-        Ok(self.clone(answer.alloc())?)
+    fn getters(&self, case: &mut Case<'_>) -> Result<Te, AllocError> {
+        self.clone(case.alloc())
     }
 }
 
 impl Getters<Http> for TransferEncoding {
-    fn getters(&self, answer: &mut CaseAnswer) -> Result<TransferEncoding, CaseFailure> {
-        answer.word(self.is_chunked())?;
-        Ok(self.clone(answer.alloc())?)
+    fn getters(&self, case: &mut Case<'_>) -> Result<TransferEncoding, AllocError> {
+        case.add(self.is_chunked());
+        self.clone(case.alloc())
     }
 }
 
 impl Getters<Http> for Upgrade {
-    fn getters(&self, answer: &mut CaseAnswer) -> Result<Upgrade, CaseFailure> {
-        Ok(self.clone(answer.alloc())?)
+    fn getters(&self, case: &mut Case<'_>) -> Result<Upgrade, AllocError> {
+        self.clone(case.alloc())
     }
 }
 
-/// Adds the header of a list of names or methods: of `from_iter` and `from_hinted_iter`.
-pub fn call_from_iter(
-    kind: &str,
-    word: &str,
-    arguments: &mut Arguments<'_>,
-    answer: &mut CaseAnswer,
-) -> Result<(), CaseFailure> {
-    let alloc = arguments.alloc();
-    if kind == "Allow" {
-        return show_result(
-            Allow::from_iter(alloc, hinted_methods(word, arguments)?),
-            answer,
-        );
-    }
-    if kind == "AccessControlAllowMethods" {
-        let methods = hinted_methods(word, arguments)?;
-        return show_result(AccessControlAllowMethods::from_iter(alloc, methods), answer);
-    }
-    let names = hinted_names(word, arguments)?;
+// The header of a list of names.
+macro_rules! from_names {
+    ($word:ident $case:ident $kind:ident: $($header:ident)+) => {{
+        let alloc = $case.alloc();
+        match $kind {
+            $(stringify!($header) => {
+                show_result($header::from_iter(alloc, hinted_names($word, $case)), $case)
+            })+
+            _ => Err(CaseFailure::NoCall),
+        }
+    }};
+}
+
+fn from_iter(kind: &str, word: &str, case: &mut Case<'_>) -> Made {
+    let alloc = case.alloc();
     match kind {
-        "AccessControlAllowHeaders" => {
-            show_result(AccessControlAllowHeaders::from_iter(alloc, names), answer)
+        "Allow" => show_result(Allow::from_iter(alloc, hinted_methods(word, case)), case),
+        "AccessControlAllowMethods" => {
+            let methods = hinted_methods(word, case);
+            show_result(AccessControlAllowMethods::from_iter(alloc, methods), case)
         }
-        "AccessControlExposeHeaders" => {
-            show_result(AccessControlExposeHeaders::from_iter(alloc, names), answer)
-        }
-        "AccessControlRequestHeaders" => {
-            show_result(AccessControlRequestHeaders::from_iter(alloc, names), answer)
-        }
-        "Connection" => show_result(Connection::from_iter(alloc, names), answer),
-        "Vary" => show_result(Vary::from_iter(alloc, names), answer),
-        _ => Err(CaseFailure::NoCall),
-    }
-}
-
-// Whether the options have this one, which the call takes by reference, and as it is.
-fn contains_name(
-    name: HeaderName,
-    header: &Connection,
-    answer: &mut CaseAnswer,
-) -> Result<(), CaseFailure> {
-    let is_in = header.contains(&name);
-    answer.word(is_in)?;
-    if header.contains(name) != is_in {
-        answer.word("(owned)")?;
-    }
-    Ok(())
-}
-
-/// Adds the answer of a call of a list of its own.
-pub fn call_list(
-    name: &str,
-    arguments: &mut Arguments<'_>,
-    answer: &mut CaseAnswer,
-) -> Result<(), CaseFailure> {
-    let alloc = arguments.alloc();
-    match name {
-        "Connection.close" => show_made(Connection::close(), answer),
-        "Connection.keep_alive" => show_made(Connection::keep_alive(), answer),
-        "Connection.upgrade" => show_made(Connection::upgrade(), answer),
-        "Connection.contains" => {
-            let option = arguments.text()?;
-            let header: Connection = arguments.header_of_rest()?;
-            say(header.contains(option.as_str()), answer)
-        }
-        "Connection.contains_name" => {
-            let option = arguments.name()?;
-            contains_name(option, &arguments.header_of_rest()?, answer)
-        }
-        "ContentEncoding.gzip" => show_made(ContentEncoding::gzip(), answer),
-        "ContentEncoding.brotli" => show_made(ContentEncoding::brotli(), answer),
-        "ContentEncoding.zstd" => show_made(ContentEncoding::zstd(), answer),
-        "ContentEncoding.contains" => {
-            let coding = arguments.text()?;
-            let header: ContentEncoding = arguments.header_of_rest()?;
-            say(header.contains(coding.as_str()), answer)
-        }
-        "Te.trailers" => show_made(Te::trailers(), answer),
-        "TransferEncoding.chunked" => show_made(TransferEncoding::chunked(), answer),
-        "Upgrade.websocket" => show_made(Upgrade::websocket(), answer),
-        "Vary.any" => show_made(Vary::any(), answer),
-        "Vary.from_name" => show_result(Vary::from_name(alloc, arguments.name()?), answer),
-        _ => Err(CaseFailure::NoCall),
+        _ => from_names!(word case kind:
+            AccessControlAllowHeaders AccessControlExposeHeaders AccessControlRequestHeaders Connection Vary),
     }
 }
 
 // Whether each of three calls of `next` gives an item of the header of a line.
 macro_rules! nexts {
-    ($header:ident.$items:ident($($given:expr),*), $arguments:ident, $answer:ident) => {{
-        let header: $header = $arguments.header()?;
+    ($header:ident.$items:ident($($given:expr),*), $case:ident) => {{
+        let header: $header = $case.header()?;
         let mut items = header.$items($($given),*);
-        $answer.word(items.next().is_some())?;
-        $answer.word(items.next().is_some())?;
-        say(items.next().is_some(), $answer)
+        $case.add(items.next().is_some());
+        $case.add(items.next().is_some());
+        $case.say(items.next().is_some())
     }};
 }
 
-/// Adds the answer of `nexts`: whether each of three calls of `next` gives an item.
-pub fn call_nexts(
-    kind: &str,
-    arguments: &mut Arguments<'_>,
-    answer: &mut CaseAnswer,
-) -> Result<(), CaseFailure> {
-    let alloc = arguments.alloc();
+fn nexts(kind: &str, case: &mut Case<'_>) -> Made {
+    let alloc = case.alloc();
     match kind {
-        "Vary" => nexts!(Vary.iter_strs(), arguments, answer),
-        "Cookie" => nexts!(Cookie.iter(), arguments, answer),
-        "Range" => nexts!(Range.satisfiable_ranges(3), arguments, answer),
-        "Allow" => nexts!(Allow.iter(alloc), arguments, answer),
-        "AccessControlAllowHeaders" => {
-            nexts!(AccessControlAllowHeaders.iter(alloc), arguments, answer)
+        "Vary" => nexts!(Vary.iter_strs(), case),
+        "Cookie" => nexts!(Cookie.iter(), case),
+        "Range" => nexts!(Range.satisfiable_ranges(3), case),
+        "Allow" => nexts!(Allow.iter(alloc), case),
+        "AccessControlAllowHeaders" => nexts!(AccessControlAllowHeaders.iter(alloc), case),
+        "AccessControlExposeHeaders" => nexts!(AccessControlExposeHeaders.iter(alloc), case),
+        _ => Err(CaseFailure::NoCall),
+    }
+}
+
+/// `from_iter` and `from_hinted_iter` of names or methods; and `nexts`.
+pub struct OfIterators;
+
+impl Calls for OfIterators {
+    fn make(name: &str, case: &mut Case<'_>) -> Made {
+        match name.split_once('.') {
+            Some((kind, "nexts")) => nexts(kind, case),
+            Some((kind, word)) if word.ends_with("_iter") => from_iter(kind, word, case),
+            _ => Err(CaseFailure::NoCall),
         }
-        "AccessControlExposeHeaders" => {
-            nexts!(AccessControlExposeHeaders.iter(alloc), arguments, answer)
+    }
+}
+
+// Whether the options have this one, which the call takes by reference, and as it is.
+fn contains_name(case: &mut Case<'_>) -> Made {
+    let name = case.name();
+    let header: Connection = case.header_of_rest()?;
+    let is_in = header.contains(&name);
+    case.add(is_in);
+    if header.contains(name) != is_in {
+        case.add("(owned)");
+    }
+    Ok(())
+}
+
+fn call_coding(word: &str, case: &mut Case<'_>) -> Made {
+    match word {
+        "gzip" => show_made(ContentEncoding::gzip(), case),
+        "brotli" => show_made(ContentEncoding::brotli(), case),
+        "zstd" => show_made(ContentEncoding::zstd(), case),
+        "contains" => {
+            let coding = case.text();
+            let header: ContentEncoding = case.header_of_rest()?;
+            case.say(header.contains(coding.as_str()))
         }
         _ => Err(CaseFailure::NoCall),
+    }
+}
+
+fn call_connection(word: &str, case: &mut Case<'_>) -> Made {
+    match word {
+        "close" => show_made(Connection::close(), case),
+        "keep_alive" => show_made(Connection::keep_alive(), case),
+        "upgrade" => show_made(Connection::upgrade(), case),
+        "contains" => {
+            let option = case.text();
+            let header: Connection = case.header_of_rest()?;
+            case.say(header.contains(option.as_str()))
+        }
+        "contains_name" => contains_name(case),
+        _ => Err(CaseFailure::NoCall),
+    }
+}
+
+/// The calls of a list of its own.
+pub struct OfLists;
+
+impl Calls for OfLists {
+    fn make(name: &str, case: &mut Case<'_>) -> Made {
+        let alloc = case.alloc();
+        match name.split_once('.') {
+            Some(("Connection", word)) => call_connection(word, case),
+            Some(("ContentEncoding", word)) => call_coding(word, case),
+            Some(("Te", "trailers")) => show_made(Te::trailers(), case),
+            Some(("TransferEncoding", "chunked")) => show_made(TransferEncoding::chunked(), case),
+            Some(("Upgrade", "websocket")) => show_made(Upgrade::websocket(), case),
+            Some(("Vary", "any")) => show_made(Vary::any(), case),
+            Some(("Vary", "from_name")) => show_result(Vary::from_name(alloc, case.name()), case),
+            _ => Err(CaseFailure::NoCall),
+        }
     }
 }

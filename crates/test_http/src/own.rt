@@ -7,7 +7,7 @@ use headers_user::MaxForwards;
 use http_header::{AGE, HeaderName, SET_COOKIE};
 use std::alloc::{AllocError, Global};
 use test_each::{Getters, show_made};
-use test_rows::{Arguments, CaseAnswer, CaseFailure};
+use test_rows::{Calls, Case, CaseFailure, Made};
 
 /// A number, which is read without memory.
 #[derive(Drop)]
@@ -62,24 +62,22 @@ impl FormHeader for FirstCookie {
 }
 
 impl Getters<Http> for OwnAge {
-    fn getters(&self, _answer: &mut CaseAnswer) -> Result<OwnAge, CaseFailure> {
-        Ok(OwnAge {
-            seconds: self.seconds.clone()?,
-        })
+    fn getters(&self, _case: &mut Case<'_>) -> Result<OwnAge, AllocError> {
+        let seconds = self.seconds.clone()?;
+        Ok(OwnAge { seconds })
     }
 }
 
 impl Getters<Http> for FirstCookie {
-    fn getters(&self, _answer: &mut CaseAnswer) -> Result<FirstCookie, CaseFailure> {
-        Ok(FirstCookie {
-            line: self.line.clone()?,
-        })
+    fn getters(&self, _case: &mut Case<'_>) -> Result<FirstCookie, AllocError> {
+        let line = self.line.clone()?;
+        Ok(FirstCookie { line })
     }
 }
 
 impl Getters<Http> for MaxForwards {
-    fn getters(&self, answer: &mut CaseAnswer) -> Result<MaxForwards, CaseFailure> {
-        answer.option(self.hops())?;
+    fn getters(&self, case: &mut Case<'_>) -> Result<MaxForwards, AllocError> {
+        case.add_option(self.hops());
         Ok(*self)
     }
 }
@@ -134,15 +132,15 @@ impl Credentials for Pin {
     }
 }
 
-/// Adds the answer of a call of `Max-Forwards` of its own.
-pub fn call_own(
-    name: &str,
-    arguments: &mut Arguments<'_>,
-    answer: &mut CaseAnswer,
-) -> Result<(), CaseFailure> {
-    match name {
-        "MaxForwards.new" => show_made(MaxForwards::new(arguments.number()?), answer),
-        "MaxForwards.none" => show_made(MaxForwards::none(), answer),
-        _ => Err(CaseFailure::NoCall),
+/// The calls of `Max-Forwards` of its own.
+pub struct OfOwn;
+
+impl Calls for OfOwn {
+    fn make(name: &str, case: &mut Case<'_>) -> Made {
+        match name {
+            "MaxForwards.new" => show_made(MaxForwards::new(case.number()), case),
+            "MaxForwards.none" => show_made(MaxForwards::none(), case),
+            _ => Err(CaseFailure::NoCall),
+        }
     }
 }

@@ -1,73 +1,77 @@
 //! Calls of the headers of ranges.
 use crate::Http;
 use headers::{ContentRange, Range};
-use test_each::{Getters, show_back, show_back_result, show_result};
-use test_rows::{Arguments, CaseAnswer, CaseFailure};
+use std::alloc::AllocError;
+use std::ops::Bound;
+use test_each::{Getters, show_back, show_result};
+use test_rows::{Calls, Case, CaseFailure, Made};
 
 impl Getters<Http> for Range {
-    fn getters(&self, answer: &mut CaseAnswer) -> Result<Range, CaseFailure> {
-        Ok(self.clone(answer.alloc())?)
+    fn getters(&self, case: &mut Case<'_>) -> Result<Range, AllocError> {
+        self.clone(case.alloc())
     }
 }
 
 impl Getters<Http> for ContentRange {
-    fn getters(&self, answer: &mut CaseAnswer) -> Result<ContentRange, CaseFailure> {
+    fn getters(&self, case: &mut Case<'_>) -> Result<ContentRange, AllocError> {
         match self.bytes_range() {
-            Some((first, last)) => {
-                answer.word(first)?;
-                answer.word(last)?;
-            }
-            None => answer.none()?,
+            Some((first, last)) => case.add(format_args!("{first} {last}")),
+            None => case.add_none(),
         }
-        answer.option(self.bytes_len())?;
-        Ok(self.clone()?)
+        case.add_option(self.bytes_len());
+        self.clone()
+    }
+}
+
+fn add_bound(bound: Bound<u64>, case: &mut Case<'_>) {
+    match bound {
+        Bound::Included(position) => case.add(format_args!("i{position}")),
+        Bound::Excluded(position) => case.add(format_args!("e{position}")),
+        Bound::Unbounded => case.add("u"),
     }
 }
 
 // The ranges that a length satisfies.
-fn satisfiable_ranges(
-    arguments: &mut Arguments<'_>,
-    answer: &mut CaseAnswer,
-) -> Result<(), CaseFailure> {
-    let length = arguments.number()?;
-    let header: Range = arguments.header()?;
-    let mut ranges = Vec::new(arguments.alloc());
+fn satisfiable_ranges(case: &mut Case<'_>) -> Made {
+    let length = case.number();
+    let header: Range = case.header()?;
+    let mut ranges = Vec::new(case.alloc());
     for range in header.satisfiable_ranges(length) {
         ranges.push(range)?;
     }
-    answer.word(ranges.len())?;
+    case.add(ranges.len());
     if header.satisfiable_ranges(length).count() != ranges.len() {
-        answer.word("(count)")?;
+        case.add("(count)");
     }
     for (first, last) in ranges.iter() {
-        answer.bound(*first)?;
-        answer.bound(*last)?;
+        add_bound(*first, case);
+        add_bound(*last, case);
     }
     Ok(())
 }
 
-/// Adds the answer of a call of these headers of its own.
-pub fn call_range(
-    name: &str,
-    arguments: &mut Arguments<'_>,
-    answer: &mut CaseAnswer,
-) -> Result<(), CaseFailure> {
-    let alloc = arguments.alloc();
-    match name {
-        "Range.bytes" => {
-            let range = (arguments.bound()?, arguments.bound()?);
-            show_result(Range::bytes(alloc, range), answer)
+/// The calls of these headers of their own.
+pub struct OfRanges;
+
+impl Calls for OfRanges {
+    fn make(name: &str, case: &mut Case<'_>) -> Made {
+        match name {
+            "Range.bytes" => {
+                let range = (case.bound(), case.bound());
+                show_result(Range::bytes(case.alloc(), range), case)
+            }
+            "Range.satisfiable_ranges" => satisfiable_ranges(case),
+            "ContentRange.bytes" => {
+                let range = (case.bound(), case.bound());
+                match ContentRange::bytes(range, case.optional_number()) {
+                    Ok(header) => show_back(&header, case),
+                    Err(_) => Err(CaseFailure::Refused),
+                }
+            }
+            "ContentRange.unsatisfied_bytes" => {
+                show_back(&ContentRange::unsatisfied_bytes(case.number()), case)
+            }
+            _ => Err(CaseFailure::NoCall),
         }
-        "Range.satisfiable_ranges" => satisfiable_ranges(arguments, answer),
-        "ContentRange.bytes" => {
-            let range = (arguments.bound()?, arguments.bound()?);
-            let header = ContentRange::bytes(range, arguments.optional_number()?);
-            show_back_result(header.map_err(|_| CaseFailure::Refused), answer)
-        }
-        "ContentRange.unsatisfied_bytes" => {
-            let length = arguments.number()?;
-            show_back(&ContentRange::unsatisfied_bytes(length), answer)
-        }
-        _ => Err(CaseFailure::NoCall),
     }
 }

@@ -1,15 +1,6 @@
 //! The traits of each type, by their bounds: here a derive that is left out is an error.
 use headers::authorization::{Authorization, Basic, Bearer, ProxyAuthorization};
-use headers::{
-    AcceptRanges, AccessControlAllowCredentials, AccessControlAllowHeaders,
-    AccessControlAllowMethods, AccessControlAllowOrigin, AccessControlExposeHeaders,
-    AccessControlMaxAge, AccessControlRequestHeaders, AccessControlRequestMethod, Age, Allow,
-    CacheControl, Connection, ContentDisposition, ContentEncoding, ContentLength, ContentLocation,
-    ContentRange, ContentType, Cookie, Date, ETag, Expect, Expires, Host, IfMatch, IfModifiedSince,
-    IfNoneMatch, IfRange, IfUnmodifiedSince, LastModified, Location, Mime, Origin, Pragma, Range,
-    Referer, ReferrerPolicy, RetryAfter, SecWebsocketAccept, SecWebsocketKey, SecWebsocketVersion,
-    Server, SetCookie, StrictTransportSecurity, Te, TransferEncoding, Upgrade, UserAgent, Vary,
-};
+use headers::*;
 use std::fmt::Debug;
 use std::hash::Hash;
 

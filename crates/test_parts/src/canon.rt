@@ -5,7 +5,7 @@ use std::alloc::Global;
 use std::hash::RandomState;
 use std::io::{self, ErrorKind};
 use std::random::RandomSource;
-use test_rows::{Arguments, CaseAnswer, CaseFailure};
+use test_rows::{Case, CaseFailure, Made};
 
 // Gives the same bytes each time.
 struct SameBytes;
@@ -34,26 +34,21 @@ fn outcome_of(ended: Result<Outcome, RunError>, sink: &Sink) -> Result<&'static 
     }
 }
 
-// The next word, as a number of bytes.
-fn size(arguments: &mut Arguments<'_>) -> Result<usize, CaseFailure> {
-    usize::try_from(arguments.number()?).map_err(|_| CaseFailure::NoCall)
-}
-
 // The next word, as the kind of a failure, or `None` if it is absent.
-fn failure(arguments: &mut Arguments<'_>) -> Result<Option<ErrorKind>, CaseFailure> {
-    match arguments.option()? {
-        Some("other") => Ok(Some(ErrorKind::Other)),
-        Some("interrupted") => Ok(Some(ErrorKind::Interrupted)),
-        Some(_) => Err(CaseFailure::NoCall),
-        None => Ok(None),
+fn failure(case: &mut Case<'_>) -> Option<ErrorKind> {
+    match case.option()? {
+        "other" => return Some(ErrorKind::Other),
+        "interrupted" => return Some(ErrorKind::Interrupted),
+        _ => case.fail(CaseFailure::NoCall),
     }
+    None
 }
 
 // INPUT: how a run over it ends, and the text that it writes. `(keys)` stands first if a run with keys
 // differs.
-fn call_run(arguments: &mut Arguments<'_>, answer: &mut CaseAnswer) -> Result<(), CaseFailure> {
-    let alloc = arguments.alloc();
-    let input = arguments.bytes()?;
+fn call_run(case: &mut Case<'_>) -> Made {
+    let alloc = case.alloc();
+    let input = case.bytes();
     let mut sink = Sink::new(alloc);
     let ended = run(alloc, &mut TextSource::new(&input), &mut sink);
     let outcome = outcome_of(ended, &sink)?;
@@ -61,37 +56,38 @@ fn call_run(arguments: &mut Arguments<'_>, answer: &mut CaseAnswer) -> Result<()
     let keys = RandomState::new(&SameBytes);
     let ended = run_with_system_keys(alloc, keys, &mut TextSource::new(&input), &mut other);
     if outcome_of(ended, &other)? != outcome || other.taken != sink.taken {
-        answer.word("(keys)")?;
+        case.add("(keys)");
     }
-    answer.word(outcome)?;
-    Ok(answer.bytes(&sink.taken)?)
+    case.add(outcome);
+    case.add_bytes(&sink.taken);
+    Ok(())
 }
 
 // INPUT EACH NONSENSE FAILURE: how a run ends, the text that it writes, and how many reads were late.
-fn call_reads(arguments: &mut Arguments<'_>, answer: &mut CaseAnswer) -> Result<(), CaseFailure> {
-    let input = arguments.bytes()?;
-    let (each, nonsense) = (size(arguments)?, size(arguments)?);
-    let mut source = TextSource::with_failure(&input, each, nonsense, failure(arguments)?);
-    let mut sink = Sink::new(arguments.alloc());
-    let ended = run(arguments.alloc(), &mut source, &mut sink);
-    answer.word(outcome_of(ended, &sink)?)?;
-    answer.bytes(&sink.taken)?;
-    Ok(answer.word(source.late_reads)?)
+fn call_reads(case: &mut Case<'_>) -> Made {
+    let input = case.bytes();
+    let (each, nonsense) = (case.size(), case.size());
+    let mut source = TextSource::with_failure(&input, each, nonsense, failure(case));
+    let mut sink = Sink::new(case.alloc());
+    let ended = run(case.alloc(), &mut source, &mut sink);
+    case.add(outcome_of(ended, &sink)?);
+    case.add_bytes(&sink.taken);
+    case.say(source.late_reads)
 }
 
 // INPUT EACH MOST FAILURE FLUSH_FAILURE: how a run ends, and what its writer holds, how many writes
 // and how many flushes were made of it.
-fn call_writes(arguments: &mut Arguments<'_>, answer: &mut CaseAnswer) -> Result<(), CaseFailure> {
-    let alloc = arguments.alloc();
-    let input = arguments.bytes()?;
-    let (each, most) = (size(arguments)?, size(arguments)?);
-    let (on_write, on_flush) = (failure(arguments)?, failure(arguments)?);
+fn call_writes(case: &mut Case<'_>) -> Made {
+    let alloc = case.alloc();
+    let input = case.bytes();
+    let (each, most) = (case.size(), case.size());
+    let (on_write, on_flush) = (failure(case), failure(case));
     let mut sink = Sink::with_failures(alloc, each, most, on_write, on_flush);
     let ended = run(alloc, &mut TextSource::new(&input), &mut sink);
-    answer.word(outcome_of(ended, &sink)?)?;
-    answer.bytes(&sink.taken)?;
-    answer.word(sink.writes)?;
-    Ok(answer.word(sink.flushes)?)
+    case.add(outcome_of(ended, &sink)?);
+    case.add_bytes(&sink.taken);
+    case.add(sink.writes);
+    case.say(sink.flushes)
 }
 
 // So many fields with different names.
@@ -104,18 +100,18 @@ fn fields(alloc: Global, count: u64) -> Result<String, CaseFailure> {
 }
 
 // COUNT: how a run over so many names ends, and whether it writes its input.
-fn call_names(arguments: &mut Arguments<'_>, answer: &mut CaseAnswer) -> Result<(), CaseFailure> {
-    let alloc = arguments.alloc();
-    let input = fields(alloc, arguments.number()?)?;
+fn call_names(case: &mut Case<'_>) -> Made {
+    let alloc = case.alloc();
+    let input = fields(alloc, case.number())?;
     let mut sink = Sink::new(alloc);
     let ended = run(alloc, &mut TextSource::new(input.as_bytes()), &mut sink);
-    answer.word(outcome_of(ended, &sink)?)?;
-    Ok(answer.word(sink.taken.as_slice() == input.as_bytes())?)
+    case.add(outcome_of(ended, &sink)?);
+    case.say(sink.taken.as_slice() == input.as_bytes())
 }
 
 // OUTCOME: the exit status of a run that ended so.
-fn call_status(arguments: &mut Arguments<'_>, answer: &mut CaseAnswer) -> Result<(), CaseFailure> {
-    let ended = match arguments.word()? {
+fn call_status(case: &mut Case<'_>) -> Made {
+    let ended = match case.word() {
         "clean" => Ok(Outcome::Clean),
         "some-refused" => Ok(Outcome::SomeRefused),
         "not-a-field" => Ok(Outcome::NotAField),
@@ -124,21 +120,17 @@ fn call_status(arguments: &mut Arguments<'_>, answer: &mut CaseAnswer) -> Result
         "room" => Err(RunError::Room),
         _ => return Err(CaseFailure::NoCall),
     };
-    Ok(answer.word(exit_status(&ended))?)
+    case.say(exit_status(&ended))
 }
 
 /// Adds the answer of a call of the program.
-pub fn call_canon(
-    call: &str,
-    arguments: &mut Arguments<'_>,
-    answer: &mut CaseAnswer,
-) -> Result<(), CaseFailure> {
+pub fn call_canon(call: &str, case: &mut Case<'_>) -> Made {
     match call {
-        "run" => call_run(arguments, answer),
-        "reads" => call_reads(arguments, answer),
-        "writes" => call_writes(arguments, answer),
-        "names" => call_names(arguments, answer),
-        "status" => call_status(arguments, answer),
+        "run" => call_run(case),
+        "reads" => call_reads(case),
+        "writes" => call_writes(case),
+        "names" => call_names(case),
+        "status" => call_status(case),
         _ => Err(CaseFailure::NoCall),
     }
 }

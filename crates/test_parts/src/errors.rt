@@ -5,49 +5,31 @@ use headers::{
     InvalidServer, InvalidUserAgent,
 };
 use std::fmt::{Debug, Display};
-use test_rows::{Arguments, CaseAnswer, CaseFailure};
+use test_rows::{Case, CaseFailure, Made};
 
-fn text_of<E: Display>(error: &E, answer: &mut CaseAnswer) -> Result<(), CaseFailure> {
-    let text = error.to_string(answer.alloc())?;
-    Ok(answer.bytes(text.as_bytes())?)
-}
-
-// Whatever width and precision are asked for, and by its name.
-fn texts_of<E: Debug + Display>(error: &E, answer: &mut CaseAnswer) -> Result<(), CaseFailure> {
-    text_of(error, answer)?;
-    let padded = format!(in answer.alloc(); "{error:>40.3}")?;
-    answer.bytes(padded.as_bytes())?;
-    let name = format!(in answer.alloc(); "{error:?}")?;
-    Ok(answer.bytes(name.as_bytes())?)
-}
-
-/// Adds the text of an error by its name.
-pub fn display(arguments: &mut Arguments<'_>, answer: &mut CaseAnswer) -> Result<(), CaseFailure> {
-    match arguments.word()? {
-        "Error" => text_of(&Error::invalid(), answer),
-        "InvalidETag" => text_of(&InvalidETag, answer),
-        "InvalidRange" => text_of(&InvalidRange, answer),
-        "InvalidContentRange" => text_of(&InvalidContentRange, answer),
-        "InvalidOrigin" => text_of(&InvalidOrigin, answer),
-        "InvalidBearerToken" => text_of(&InvalidBearerToken, answer),
-        "InvalidReferer" => text_of(&InvalidReferer, answer),
-        "InvalidServer" => text_of(&InvalidServer, answer),
-        "InvalidUserAgent" => text_of(&InvalidUserAgent, answer),
-        _ => Err(CaseFailure::NoCall),
+/// Adds the text of an error; and of `formats`, how it is printed whatever width and precision are asked for, and by its
+/// name.
+pub fn add_error<E: Debug + Display>(error: &E, formats: bool, case: &mut Case<'_>) -> Made {
+    case.add_text(error);
+    if formats {
+        case.add_text(format_args!("{error:>40.3}"));
+        case.add_text(format_args!("{error:?}"));
     }
+    Ok(())
 }
 
-/// Adds the text of an error by its name: as it is, under `{:>40.3}`, and under `{:?}`.
-pub fn formats(arguments: &mut Arguments<'_>, answer: &mut CaseAnswer) -> Result<(), CaseFailure> {
-    match arguments.word()? {
-        "InvalidETag" => texts_of(&InvalidETag, answer),
-        "InvalidRange" => texts_of(&InvalidRange, answer),
-        "InvalidContentRange" => texts_of(&InvalidContentRange, answer),
-        "InvalidOrigin" => texts_of(&InvalidOrigin, answer),
-        "InvalidBearerToken" => texts_of(&InvalidBearerToken, answer),
-        "InvalidReferer" => texts_of(&InvalidReferer, answer),
-        "InvalidServer" => texts_of(&InvalidServer, answer),
-        "InvalidUserAgent" => texts_of(&InvalidUserAgent, answer),
+/// Adds the text of an error by its name; and of `formats`, how it is printed.
+pub fn add_named(formats: bool, case: &mut Case<'_>) -> Made {
+    match case.word() {
+        "Error" => add_error(&Error::invalid(), formats, case),
+        "InvalidETag" => add_error(&InvalidETag, formats, case),
+        "InvalidRange" => add_error(&InvalidRange, formats, case),
+        "InvalidContentRange" => add_error(&InvalidContentRange, formats, case),
+        "InvalidOrigin" => add_error(&InvalidOrigin, formats, case),
+        "InvalidBearerToken" => add_error(&InvalidBearerToken, formats, case),
+        "InvalidReferer" => add_error(&InvalidReferer, formats, case),
+        "InvalidServer" => add_error(&InvalidServer, formats, case),
+        "InvalidUserAgent" => add_error(&InvalidUserAgent, formats, case),
         _ => Err(CaseFailure::NoCall),
     }
 }

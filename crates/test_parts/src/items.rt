@@ -3,64 +3,53 @@ ghost use Rattle.std.specs.Prelude.{◌≡◌, ◌<◌, true, length, count_by, 
 ghost use Rattle.headers_syntax.specs.Text.{is_quote};
 ghost use Rattle.headers_items.{specs.Places.{comma, is_counting_place}, specs.CutLaw.AreCuts};
 
-use headers::HeaderValue;
 use headers_items::{Comma, FlatCsv, Scan, Separator};
 use std::convert::AsSlice;
-use test_rows::{Arguments, CaseAnswer, CaseFailure};
+use test_rows::{Case, CaseFailure, Made};
 
 /// Adds byte strings, or `(none)` if there are none.
-pub fn show_each<T: AsSlice<u8>>(items: &[T], answer: &mut CaseAnswer) -> Result<(), CaseFailure> {
+pub fn show_each<T: AsSlice<u8>>(items: &[T], case: &mut Case<'_>) -> Made {
     if items.is_empty() {
-        return Ok(answer.none()?);
+        return case.say("(none)");
     }
-    for item in items {
-        answer.bytes(item.as_slice())?;
-    }
+    case.add_each(items);
     Ok(())
 }
 
-fn show_items<S: Separator>(list: &FlatCsv<S>, answer: &mut CaseAnswer) -> Result<(), CaseFailure> {
-    let items: Vec<&str> = list.iter().collect(answer.alloc())?;
-    show_each(items.as_slice(), answer)
+fn show_items<S: Separator>(list: &FlatCsv<S>, case: &mut Case<'_>) -> Made {
+    let items: Vec<&str> = list.iter().collect(case.alloc())?;
+    show_each(items.as_slice(), case)
 }
 
 // The list that lines are merged to.
-fn merged<S: Separator>(arguments: &mut Arguments<'_>) -> Result<FlatCsv<S>, CaseFailure> {
-    let lines = arguments.lines()?;
-    Ok(FlatCsv::from_lines(arguments.alloc(), &mut lines.iter())?)
+fn merged<S: Separator>(case: &mut Case<'_>) -> Result<FlatCsv<S>, CaseFailure> {
+    let lines = case.lines();
+    Ok(FlatCsv::from_lines(case.alloc(), &mut lines.iter())?)
 }
 
-fn show_owned<S: Separator>(
-    arguments: &mut Arguments<'_>,
-    answer: &mut CaseAnswer,
-) -> Result<(), CaseFailure> {
-    let lines = arguments.lines()?;
-    let list: FlatCsv<S> = FlatCsv::from_items(arguments.alloc(), lines.into_iter())?;
-    show_items(&list, answer)
+fn show_owned<S: Separator>(case: &mut Case<'_>) -> Made {
+    let lines = case.lines();
+    let list: FlatCsv<S> = FlatCsv::from_items(case.alloc(), lines.into_iter())?;
+    show_items(&list, case)
 }
 
-fn show_copy<S: Separator>(
-    arguments: &mut Arguments<'_>,
-    answer: &mut CaseAnswer,
-) -> Result<(), CaseFailure> {
-    let list: FlatCsv<S> = merged(arguments)?;
-    let copy = list.clone(arguments.alloc())?;
+fn show_copy<S: Separator>(case: &mut Case<'_>) -> Made {
+    let list: FlatCsv<S> = merged(case)?;
+    let copy = list.clone(case.alloc())?;
     if copy != list {
-        answer.word("(copy)")?;
+        case.add("(copy)");
     }
-    Ok(answer.bytes(copy.to_value(arguments.alloc())?.as_bytes())?)
+    case.add_bytes(copy.to_value(case.alloc())?.as_bytes());
+    Ok(())
 }
 
-fn are_equal<S: Separator>(
-    arguments: &mut Arguments<'_>,
-    answer: &mut CaseAnswer,
-) -> Result<(), CaseFailure> {
-    let lines = arguments.lines()?;
+fn are_equal<S: Separator>(case: &mut Case<'_>) -> Made {
+    let lines = case.lines();
     let [one, other] = lines.as_slice() else {
         return Err(CaseFailure::NoCall);
     };
     let one: FlatCsv<S> = FlatCsv::from_value(one.clone()?);
-    Ok(answer.word(one == FlatCsv::from_value(other.clone()?))?)
+    case.say(one == FlatCsv::from_value(other.clone()?))
 }
 
 /// Adds the answer of a call of the lists with a separator.
@@ -68,41 +57,38 @@ fn are_equal<S: Separator>(
 /// `items LINE..`: the items of the merged lines; `from_items LINE..`: the same of lines that are
 /// handed over; `from_names NAME..`: the line that names make; `copy LINE..`: the line of a copy of
 /// the merged lines, after `(copy)` if the copy isn't equal; `eq LINE LINE`.
-pub fn call_list<S: Separator>(
-    call: &str,
-    arguments: &mut Arguments<'_>,
-    answer: &mut CaseAnswer,
-) -> Result<(), CaseFailure> {
+pub fn call_list<S: Separator>(call: &str, case: &mut Case<'_>) -> Made {
     match call {
-        "items" => show_items(&merged::<S>(arguments)?, answer),
-        "from_items" => show_owned::<S>(arguments, answer),
+        "items" => show_items(&merged::<S>(case)?, case),
+        "from_items" => show_owned::<S>(case),
         "from_names" => {
-            let names = arguments.names()?;
-            let list: FlatCsv<S> = FlatCsv::from_names(arguments.alloc(), names)?;
-            Ok(answer.bytes(list.as_bytes())?)
+            let names = case.names();
+            let list: FlatCsv<S> = FlatCsv::from_names(case.alloc(), names)?;
+            case.add_bytes(list.as_bytes());
+            Ok(())
         }
-        "copy" => show_copy::<S>(arguments, answer),
-        "eq" => are_equal::<S>(arguments, answer),
+        "copy" => show_copy::<S>(case),
+        "eq" => are_equal::<S>(case),
         _ => Err(CaseFailure::NoCall),
     }
 }
 
 // A text has at most as many marks as bytes.
-fn show_marks(text: &[u8], answer: &mut CaseAnswer) -> Result<(), CaseFailure> {
+fn show_marks(text: &[u8], case: &mut Case<'_>) -> Made {
     let mut scan = Scan::new(text, b',');
     let mut is_found = false;
     for _ in text {
         if let Some(mark) = scan.next_mark() {
             is_found = true;
             let kind = if mark.quote { "quote" } else { "comma" };
-            answer.word(format_args!("{kind}:{}", mark.place))?;
+            case.add(format_args!("{kind}:{}", mark.place));
         }
     }
     if !is_found {
-        answer.none()?;
+        case.add_none();
     }
     if scan.next_mark().is_some() {
-        answer.word("(more)")?;
+        case.add("(more)");
     }
     Ok(())
 }
@@ -135,39 +121,34 @@ fn are_cuts(text: &[u8], start: usize, places: &[usize]) -> bool
         && are_cuts(text, *place + 1, others)
 }
 
-fn places(arguments: &mut Arguments<'_>) -> Result<Vec<usize>, CaseFailure> {
-    let mut places = Vec::new(arguments.alloc());
-    for word in arguments.rest().split_whitespace() {
-        places.push(word.parse().map_err(|_| CaseFailure::NoCall)?)?;
+fn places(case: &mut Case<'_>) -> Result<Vec<usize>, CaseFailure> {
+    let mut places = Vec::new(case.alloc());
+    for word in case.rest().split_whitespace() {
+        places.push(word.parse()?)?;
     }
     Ok(places)
 }
 
 // The pieces of a cut, after the line that they are merged to.
-fn show_pieces(arguments: &mut Arguments<'_>, answer: &mut CaseAnswer) -> Result<(), CaseFailure> {
-    let alloc = arguments.alloc();
-    let line = HeaderValue::from_vec(arguments.bytes()?)?;
-    let places = places(arguments)?;
-    let list: FlatCsv<Comma> = FlatCsv::from_value(line);
+fn show_pieces(case: &mut Case<'_>) -> Made {
+    let alloc = case.alloc();
+    let list: FlatCsv<Comma> = FlatCsv::from_value(case.line());
+    let places = places(case)?;
     if list.as_text().is_none() || !are_cuts(list.as_bytes(), 0, places.as_slice()) {
         return Err(CaseFailure::NoCall);
     }
     let pieces = list.cut_at(alloc, places.as_slice())?;
     let merged: FlatCsv<Comma> = FlatCsv::from_lines(alloc, &mut pieces.iter())?;
-    answer.bytes(merged.as_bytes())?;
-    show_each(pieces.as_slice(), answer)
+    case.add_bytes(merged.as_bytes());
+    show_each(pieces.as_slice(), case)
 }
 
 /// Adds the answer of a call of the lists with commas: `marks TEXT` and `cut_at TEXT PLACE..`, or a
 /// call of all lists.
-pub fn call_comma(
-    call: &str,
-    arguments: &mut Arguments<'_>,
-    answer: &mut CaseAnswer,
-) -> Result<(), CaseFailure> {
+pub fn call_comma(call: &str, case: &mut Case<'_>) -> Made {
     match call {
-        "marks" => show_marks(&arguments.bytes()?, answer),
-        "cut_at" => show_pieces(arguments, answer),
-        _ => call_list::<Comma>(call, arguments, answer),
+        "marks" => show_marks(&case.bytes(), case),
+        "cut_at" => show_pieces(case),
+        _ => call_list::<Comma>(call, case),
     }
 }

@@ -6,7 +6,7 @@ use headers::{
 };
 use std::alloc::Global;
 use test_each::{holds, holds_beginning, is_same};
-use test_rows::{Arguments, CaseAnswer, CaseFailure, append_lines};
+use test_rows::{Case, CaseFailure, Made, append_lines};
 
 fn is_numbered(name: &str) -> bool {
     name.starts_with("x-")
@@ -52,14 +52,9 @@ fn is_left(map: &HeaderMap, before: &HeaderMap, step: &Step) -> bool {
 }
 
 // The same of the step after so many that are done.
-fn is_left_by(
-    alloc: Global,
-    map: &HeaderMap,
-    text: &str,
-    done: usize,
-) -> Result<bool, CaseFailure> {
-    let (mut before, steps) = Arguments::new(alloc, text).map_and_steps()?;
-    let mut first = Vec::new(alloc);
+fn is_left_by(map: &HeaderMap, done: usize, case: &mut Case<'_>) -> Result<bool, CaseFailure> {
+    let (mut before, steps) = case.map_and_steps();
+    let mut first = Vec::new(case.alloc());
     let mut left = steps.into_iter();
     for _ in 0..done {
         if let Some(step) = left.next() {
@@ -76,47 +71,45 @@ fn is_left_by(
 }
 
 // How the steps end, and the map that they leave.
-fn show_applied(arguments: &mut Arguments<'_>, answer: &mut CaseAnswer) -> Result<(), CaseFailure> {
-    let alloc = arguments.alloc();
-    let text = arguments.rest();
-    let (mut map, steps) = Arguments::new(alloc, text).map_and_steps()?;
+fn show_applied(case: &mut Case<'_>) -> Made {
+    let words = case.rest();
+    case.put_back(words);
+    let (mut map, steps) = case.map_and_steps();
     if let Err(ApplyError { done, cause }) = apply(&mut map, steps) {
+        case.put_back(words);
         if cause == InsertError::Full {
-            answer.word(format_args!("(full) {done}"))?;
-        } else if is_left_by(alloc, &map, text, done)? {
+            case.rest();
+            case.add(format_args!("(full) {done}"));
+        } else if is_left_by(&map, done, case)? {
             return Err(CaseFailure::Memory);
         } else {
-            answer.word("(left)")?;
+            case.add("(left)");
         }
     }
-    answer.map(&map)
+    case.say_map(&map)
 }
 
 // The map once the fields of all `put` are set together.
-fn show_set(arguments: &mut Arguments<'_>, answer: &mut CaseAnswer) -> Result<(), CaseFailure> {
-    let (mut map, steps) = arguments.map_and_steps()?;
-    let mut fields = Vec::new(arguments.alloc());
+fn show_set(case: &mut Case<'_>) -> Made {
+    let (mut map, steps) = case.map_and_steps();
+    let mut fields = Vec::new(case.alloc());
     for step in steps {
         let Step::Put(field) = step else {
             return Err(CaseFailure::NoCall);
         };
         fields.push(field)?;
     }
-    set_all(&mut map, fields).map_err(|_| CaseFailure::Memory)?;
-    answer.map(&map)
+    set_all(&mut map, fields)?;
+    case.say_map(&map)
 }
 
 // Puts the header that the lines encode into the map.
-fn insert<H: Header>(
-    alloc: Global,
-    map: &mut HeaderMap,
-    lines: &[HeaderValue],
-) -> Result<(), CaseFailure> {
+fn insert<H: Header>(alloc: Global, map: &mut HeaderMap, lines: &[HeaderValue]) -> Made {
     let header: H = decode_values(alloc, lines)?;
     Ok(map.typed_insert(alloc, header)?)
 }
 
-fn insert_named(alloc: Global, map: &mut HeaderMap, encoded: &Encoded) -> Result<(), CaseFailure> {
+fn insert_named(alloc: Global, map: &mut HeaderMap, encoded: &Encoded) -> Made {
     match encoded.name.as_str() {
         "age" => insert::<Age>(alloc, map, &encoded.lines),
         "location" => insert::<Location>(alloc, map, &encoded.lines),
@@ -126,43 +119,34 @@ fn insert_named(alloc: Global, map: &mut HeaderMap, encoded: &Encoded) -> Result
 }
 
 // The map once the header of the lines of each `put` is inserted.
-fn show_inserted(
-    arguments: &mut Arguments<'_>,
-    answer: &mut CaseAnswer,
-) -> Result<(), CaseFailure> {
-    let (mut map, steps) = arguments.map_and_steps()?;
+fn show_inserted(case: &mut Case<'_>) -> Made {
+    let (mut map, steps) = case.map_and_steps();
     for step in steps {
         let Step::Put(encoded) = step else {
             return Err(CaseFailure::NoCall);
         };
-        insert_named(arguments.alloc(), &mut map, &encoded)?;
+        insert_named(case.alloc(), &mut map, &encoded)?;
     }
-    answer.map(&map)
+    case.say_map(&map)
 }
 
 // The lines of `canonical`, of a map that has these lines under the header's name.
-fn show_canonical<H: Header>(
-    arguments: &mut Arguments<'_>,
-    answer: &mut CaseAnswer,
-) -> Result<(), CaseFailure> {
-    let alloc = arguments.alloc();
+fn show_canonical<H: Header>(case: &mut Case<'_>) -> Made {
+    let alloc = case.alloc();
     let mut map = HeaderMap::new(alloc);
-    append_lines(&mut map, &H::name(), arguments.lines()?)?;
+    append_lines(&mut map, &H::name(), case.lines())?;
     match canonical::<H>(alloc, &map)? {
-        Some(encoded) if encoded.name == H::name() => show_each(encoded.lines.as_slice(), answer),
-        Some(_) => Ok(answer.word("(name)")?),
-        None => Ok(answer.none()?),
+        Some(encoded) if encoded.name == H::name() => show_each(encoded.lines.as_slice(), case),
+        Some(_) => case.say("(name)"),
+        None => case.say("(none)"),
     }
 }
 
-fn show_canonical_of(
-    arguments: &mut Arguments<'_>,
-    answer: &mut CaseAnswer,
-) -> Result<(), CaseFailure> {
-    match arguments.word()? {
-        "Age" => show_canonical::<Age>(arguments, answer),
-        "Location" => show_canonical::<Location>(arguments, answer),
-        "SetCookie" => show_canonical::<SetCookie>(arguments, answer),
+fn show_canonical_of(case: &mut Case<'_>) -> Made {
+    match case.word() {
+        "Age" => show_canonical::<Age>(case),
+        "Location" => show_canonical::<Location>(case),
+        "SetCookie" => show_canonical::<SetCookie>(case),
         _ => Err(CaseFailure::NoCall),
     }
 }
@@ -171,9 +155,8 @@ fn show_canonical_of(
 fn numbered(alloc: Global, number: usize) -> Result<(HeaderName, HeaderValue), CaseFailure> {
     let name = format!(in alloc; "x-{number}")?;
     let line = format!(in alloc; "{number}")?;
-    let name = Arguments::new(alloc, name.as_str()).name()?;
-    let line = HeaderValue::from_string(line)?;
-    Ok((name, line))
+    let name = HeaderName::from_bytes(alloc, name.as_bytes())?;
+    Ok((name, HeaderValue::from_string(line)?))
 }
 
 // Adds numbered names until the map is full. How many they are.
@@ -202,64 +185,64 @@ fn is_filled(alloc: Global, map: &HeaderMap, count: usize) -> Result<bool, CaseF
 }
 
 // What is left of a map that was filled with so many numbered names.
-fn show_full(map: &HeaderMap, count: usize, answer: &mut CaseAnswer) -> Result<(), CaseFailure> {
-    answer.word(count)?;
-    if !is_filled(answer.alloc(), map, count)? {
-        answer.word("(changed)")?;
+fn show_full(map: &HeaderMap, count: usize, case: &mut Case<'_>) -> Made {
+    case.add(count);
+    if !is_filled(case.alloc(), map, count)? {
+        case.add("(changed)");
     }
-    let mut others: Vec<&str> = map
-        .keys()
-        .map(|name| name.as_str())
-        .filter(|name| !is_numbered(name))
-        .collect(answer.alloc())?;
+    let mut others = Vec::new(case.alloc());
+    for name in map.keys() {
+        if !is_numbered(name.as_str()) {
+            others.push(name.as_str())?;
+        }
+    }
     others.sort_unstable();
-    answer.fields(map, others.as_slice())
+    case.add_fields(map, others.as_slice());
+    Ok(())
 }
 
-fn apply_full(arguments: &mut Arguments<'_>, answer: &mut CaseAnswer) -> Result<(), CaseFailure> {
-    let alloc = arguments.alloc();
-    let (mut map, steps) = arguments.map_and_steps()?;
+fn apply_full(case: &mut Case<'_>) -> Made {
+    let alloc = case.alloc();
+    let (mut map, steps) = case.map_and_steps();
     let count = fill(alloc, &mut map)?;
     match apply(&mut map, steps) {
         Ok(()) => {}
         Err(ApplyError { done, cause }) if cause == InsertError::Full => {
-            answer.word(format_args!("(full) {done}"))?;
+            case.add(format_args!("(full) {done}"));
         }
         Err(_) => return Err(CaseFailure::Memory),
     }
-    show_full(&map, count, answer)
+    show_full(&map, count, case)
 }
 
-fn insert_full(arguments: &mut Arguments<'_>, answer: &mut CaseAnswer) -> Result<(), CaseFailure> {
-    let alloc = arguments.alloc();
-    let age = Age::from_secs(arguments.number()?);
-    let mut map = arguments.map()?;
+fn insert_full(case: &mut Case<'_>) -> Made {
+    let alloc = case.alloc();
+    let age = Age::from_secs(case.number());
+    let mut map = case.map();
     let count = fill(alloc, &mut map)?;
     match map.typed_insert(alloc, age) {
         Ok(()) => {}
-        Err(InsertError::Full) => answer.word("(full)")?,
+        Err(InsertError::Full) => case.add("(full)"),
         Err(InsertError::Memory) => return Err(CaseFailure::Memory),
     }
-    show_full(&map, count, answer)
+    show_full(&map, count, case)
 }
 
 // The texts of the errors of a step and of an insert.
-fn show_errors(arguments: &mut Arguments<'_>, answer: &mut CaseAnswer) -> Result<(), CaseFailure> {
-    let alloc = arguments.alloc();
-    let cause = match arguments.word()? {
+fn show_errors(case: &mut Case<'_>) -> Made {
+    let cause = match case.word() {
         "memory" => InsertError::Memory,
         "full" => InsertError::Full,
         _ => return Err(CaseFailure::NoCall),
     };
-    let Ok(done) = usize::try_from(arguments.number()?) else {
-        return Err(CaseFailure::NoCall);
-    };
-    answer.bytes(format!(in alloc; "{cause}")?.as_bytes())?;
+    let done = case.size();
+    case.add_text(&cause);
     let error = ApplyError { done, cause };
     if error != (ApplyError { done, cause }) || error == (ApplyError { done: !done, cause }) {
-        answer.word("(equal)")?;
+        case.add("(equal)");
     }
-    Ok(answer.bytes(format!(in alloc; "{error}")?.as_bytes())?)
+    case.add_text(&error);
+    Ok(())
 }
 
 /// Adds the answer of a call of a map.
@@ -270,19 +253,15 @@ fn show_errors(arguments: &mut Arguments<'_>, answer: &mut CaseAnswer) -> Result
 /// the map after a typed insert for each `(put:NAME) LINE..`; `set_all FIELD.. PUT..`: the map once all
 /// of these fields are set together; `canonical TYPE LINE..`;
 /// `errors CAUSE DONE`: how the errors of an insert and of steps are printed.
-pub fn call_map(
-    call: &str,
-    arguments: &mut Arguments<'_>,
-    answer: &mut CaseAnswer,
-) -> Result<(), CaseFailure> {
+pub fn call_map(call: &str, case: &mut Case<'_>) -> Made {
     match call {
-        "apply" => show_applied(arguments, answer),
-        "apply_full" => apply_full(arguments, answer),
-        "typed_insert" => show_inserted(arguments, answer),
-        "set_all" => show_set(arguments, answer),
-        "insert_full" => insert_full(arguments, answer),
-        "canonical" => show_canonical_of(arguments, answer),
-        "errors" => show_errors(arguments, answer),
+        "apply" => show_applied(case),
+        "apply_full" => apply_full(case),
+        "typed_insert" => show_inserted(case),
+        "set_all" => show_set(case),
+        "insert_full" => insert_full(case),
+        "canonical" => show_canonical_of(case),
+        "errors" => show_errors(case),
         _ => Err(CaseFailure::NoCall),
     }
 }

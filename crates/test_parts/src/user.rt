@@ -1,87 +1,74 @@
 //! Calls of a user's own header and credentials. Fields are written as those of a map.
+use crate::errors::add_error;
 use crate::map::same_lines;
 use headers::authorization::Authorization;
 use headers::{HeaderMapExt, InsertError, encoding};
 use headers_user::{ForwardError, Forwarded, MaxForwards, forward, key_of};
-use test_rows::{Arguments, CaseAnswer, CaseFailure};
+use test_rows::{Case, CaseFailure, Made};
 
 /// Adds the map that a typed insert of no limit leaves.
-pub fn insert_none(
-    arguments: &mut Arguments<'_>,
-    answer: &mut CaseAnswer,
-) -> Result<(), CaseFailure> {
-    let alloc = arguments.alloc();
-    let text = arguments.rest();
-    let mut map = Arguments::new(alloc, text).map()?;
-    let before = Arguments::new(alloc, text).map()?;
+pub fn insert_none(case: &mut Case<'_>) -> Made {
+    let alloc = case.alloc();
+    let words = case.rest();
+    case.put_back(words);
+    let mut map = case.map();
+    case.put_back(words);
+    let before = case.map();
     match map.typed_insert(alloc, MaxForwards::none()) {
         Ok(()) => {}
         Err(InsertError::Memory) if same_lines(&map, &before) => {
             return Err(CaseFailure::Memory);
         }
-        Err(_) => answer.word("(left)")?,
+        Err(_) => case.add("(left)"),
     }
-    answer.map(&map)
+    case.say_map(&map)
 }
 
 // What becomes of a request with these fields, and its fields then.
-fn show_forwarded(
-    arguments: &mut Arguments<'_>,
-    answer: &mut CaseAnswer,
-) -> Result<(), CaseFailure> {
-    let alloc = arguments.alloc();
-    let text = arguments.rest();
-    let mut map = Arguments::new(alloc, text).map()?;
-    let before = Arguments::new(alloc, text).map()?;
+fn show_forwarded(case: &mut Case<'_>) -> Made {
+    let alloc = case.alloc();
+    let words = case.rest();
+    case.put_back(words);
+    let mut map = case.map();
+    case.put_back(words);
+    let before = case.map();
     match forward(alloc, &mut map) {
-        Ok(Forwarded::Stop) => answer.word("stop")?,
-        Ok(Forwarded::Passed(hops)) => answer.word(format_args!("passed {hops}"))?,
-        Ok(Forwarded::Unlimited) => answer.word("unlimited")?,
-        Err(ForwardError::BadHops) => answer.word(ForwardError::BadHops)?,
+        Ok(Forwarded::Stop) => case.add("stop"),
+        Ok(Forwarded::Passed(hops)) => case.add(format_args!("passed {hops}")),
+        Ok(Forwarded::Unlimited) => case.add("unlimited"),
+        Err(ForwardError::BadHops) => case.add(ForwardError::BadHops),
         Err(ForwardError::Memory) if same_lines(&map, &before) => {
             return Err(CaseFailure::Memory);
         }
-        Err(ForwardError::Memory) => answer.word("(left)")?,
+        Err(ForwardError::Memory) => case.add("(left)"),
     }
-    answer.map(&map)
+    case.say_map(&map)
 }
 
 // The key in these fields, and the lines that encode it.
-fn show_key(arguments: &mut Arguments<'_>, answer: &mut CaseAnswer) -> Result<(), CaseFailure> {
-    let alloc = arguments.alloc();
-    let map = arguments.map()?;
+fn show_key(case: &mut Case<'_>) -> Made {
+    let alloc = case.alloc();
+    let map = case.map();
     let Some(key) = key_of(alloc, &map)? else {
-        return Ok(answer.none()?);
+        return case.say("(none)");
     };
-    answer.bytes(key.key().as_bytes())?;
+    case.add_bytes(key.key().as_bytes());
     let encoded = encoding(alloc, &Authorization(key))?;
     for line in &encoded.lines {
-        answer.line(line)?;
+        case.add_line(line);
     }
     Ok(())
 }
 
-// How an error is printed: plainly, at a width and a precision, and for a programmer.
-fn show_error(error: ForwardError, answer: &mut CaseAnswer) -> Result<(), CaseFailure> {
-    let alloc = answer.alloc();
-    answer.bytes(format!(in alloc; "{error}")?.as_bytes())?;
-    answer.bytes(format!(in alloc; "{error:>40.3}")?.as_bytes())?;
-    Ok(answer.bytes(format!(in alloc; "{error:?}")?.as_bytes())?)
-}
-
 /// Adds the answer of a call of a user's crate: `forward FIELD..`, `key_of FIELD..`, and
 /// `formats NAME`, how an error of `forward` is printed.
-pub fn call_user(
-    call: &str,
-    arguments: &mut Arguments<'_>,
-    answer: &mut CaseAnswer,
-) -> Result<(), CaseFailure> {
+pub fn call_user(call: &str, case: &mut Case<'_>) -> Made {
     match call {
-        "forward" => show_forwarded(arguments, answer),
-        "key_of" => show_key(arguments, answer),
-        "formats" => match arguments.word()? {
-            "BadHops" => show_error(ForwardError::BadHops, answer),
-            "Memory" => show_error(ForwardError::Memory, answer),
+        "forward" => show_forwarded(case),
+        "key_of" => show_key(case),
+        "formats" => match case.word() {
+            "BadHops" => add_error(&ForwardError::BadHops, true, case),
+            "Memory" => add_error(&ForwardError::Memory, true, case),
             _ => Err(CaseFailure::NoCall),
         },
         _ => Err(CaseFailure::NoCall),

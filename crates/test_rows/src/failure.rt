@@ -1,8 +1,9 @@
 //! Why a call has no answer.
-use headers::{InsertError, Refused};
+use headers::{ApplyError, InsertError, Refused};
 use http::method::MethodError;
 use http_header::{HeaderMapError, HeaderNameError, HeaderValueError};
 use std::alloc::{AllocError, AllocFailed};
+use std::num::ParseIntError;
 
 /// Why a call has no answer.
 #[derive(Clone, Copy, Debug, PartialEq, Eq)]
@@ -56,6 +57,18 @@ impl From<HeaderMapError> for CaseFailure {
 impl From<InsertError> for CaseFailure {
     fn from(_error: InsertError) -> CaseFailure {
         CaseFailure::Memory
+    }
+}
+
+impl From<ApplyError> for CaseFailure {
+    fn from(_error: ApplyError) -> CaseFailure {
+        CaseFailure::Memory
+    }
+}
+
+impl From<ParseIntError> for CaseFailure {
+    fn from(_error: ParseIntError) -> CaseFailure {
+        CaseFailure::NoCall
     }
 }
 

@@ -20,7 +20,8 @@ struct Row<'a> {
     kind: Option<&'a str>,
 }
 
-fn is_row(line: &str) -> bool
+/// Returns whether a line is a test case: it is neither empty nor a comment.
+pub fn is_row(line: &str) -> bool
     ensures { result ≡ is_row_line line.now }
 {
     match line.as_bytes() {
@@ -50,8 +51,30 @@ fn read_row(line: &str) -> Row<'_> {
     }
 }
 
-// Runs the test case at a place of a file, counts it, and prints it if its answer isn't the
-// expected one. If an allocation fails, the call is made once more.
+/// Counts the test case of a line of a file, and prints it if it was answered otherwise.
+pub fn judge<W: Write>(
+    file: &str,
+    number: usize,
+    line: &str,
+    given: &str,
+    tally: &mut Tally,
+    writer: &mut W,
+) -> Result<()>
+    ensures rows { OnOk result (tally.new.rows ≡ tally.old.rows + 1) }
+{
+    let Row { call, wanted, kind } = read_row(line);
+    let agrees = given == wanted;
+    tally.add_row(kind, agrees)?;
+    if !agrees {
+        writeln!(
+            writer,
+            "{file}:{number}: {call}: wanted {wanted}, given {given}"
+        )?;
+    }
+    Ok(())
+}
+
+// Runs the test case at a place of a file, and judges its answer. If an allocation fails, the call is made once more.
 fn replay_row<C: Calls, W: Write>(
     alloc: Global,
     file: &str,
@@ -62,7 +85,7 @@ fn replay_row<C: Calls, W: Write>(
 ) -> Result<()>
     ensures rows { OnOk result (tally.new.rows ≡ tally.old.rows + 1) }
 {
-    let Row { call, wanted, kind } = read_row(line);
+    let call = read_row(line).call;
     let mut made = answer_of::<C>(alloc, call);
     if matches!(made, Err(CaseFailure::Memory)) {
         writeln!(writer, "{file}:{number}: {call}: refused, made again")?;
@@ -72,15 +95,7 @@ fn replay_row<C: Calls, W: Write>(
         Ok(answer) => answer.as_str(),
         Err(failure) => failure.as_str(),
     };
-    let agrees = given == wanted;
-    tally.add_row(kind, agrees)?;
-    if !agrees {
-        writeln!(
-            writer,
-            "{file}:{number}: {call}: wanted {wanted}, given {given}"
-        )?;
-    }
-    Ok(())
+    judge(file, number, line, given, tally, writer)
 }
 
 // Runs the test case of a line, once what it repeats is written out.
