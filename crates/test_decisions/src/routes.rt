@@ -13,7 +13,7 @@ pub const PRESENT: u64 = 1_767_225_600;
 // `route PATH METHOD FIELDS`: the reason, the status or `(none)`, what is sent, and the fields, for a request of
 // HTTP/1.1 without content by its path, among the routes of `resources.rt`. The response had these fields, and the server
 // may deny the request.
-fn call_route(denied: Option<&Denied>, mut set: HeaderMap, case: &mut Case<'_>) -> Made {
+fn call_route(denied: Option<Denied>, mut set: HeaderMap, case: &mut Case<'_>) -> Made {
     let alloc = case.alloc();
     let (path, method, fields) = (case.word(), case.method(), case.map());
     let asked = RoutedRequest {
@@ -24,7 +24,7 @@ fn call_route(denied: Option<&Denied>, mut set: HeaderMap, case: &mut Case<'_>) 
             authority: None,
             content: RequestContent::Absent,
             fields: &fields,
-            denied,
+            denied: denied.as_ref(),
         },
         present: PRESENT,
     };
@@ -86,7 +86,7 @@ impl Calls for Routing {
             // `route_over SET (/) PATH METHOD FIELDS`: for a response that had the fields SET.
             "route_over" => call_route(None, case.map(), case),
             // `denied STATUS PATH METHOD FIELDS`: for a request that the server denies.
-            "denied" => call_route(Some(&denied_by(case.word())?), none, case),
+            "denied" => call_route(Some(denied_by(case.word())?), none, case),
             "stage" => call_stage(case.word(), case),
             _ => Err(CaseFailure::NoCall),
         }
