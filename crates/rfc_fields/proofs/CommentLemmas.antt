@@ -1,13 +1,12 @@
 -- A comment by the grammar ends where the scan over its bytes ends, and what the scan passes is a comment.
-use Rattle.std.proofs.lemmas.{Grind.common_steps, Bool.{and_parts, eqb-true}, List.{append_assoc, drop_all}}
-use Rattle.std.proofs.{lemmas.Option.{none-some, same_Some}, Common.{◌≡◌, ℕ, zero, suc, Bool, true, false, not, cond}}
-use Rattle.std.proofs.Common.{List, [], ◌∷◌, ◌++◌, refl, sym, ◌∙◌, ap, subst, ◌+◌, ◌<◌, ◌≤◌, length, get_or, drop}
-use Rattle.std.{proofs.{Common.{Option, Some, None, add-one, arith}, Math.Seq.drop-cons}, specs.Prelude.{◌&&◌, ◌==◌}}
-use Rattle.{http_header.specs.Token.is_value_byte, rfc_fields.specs.Comments.{Content, HasComment, CommentsParseOneWay}}
-use Rattle.rfc_fields.specs.Comments.{content_text, is_content, is_ctext, Content.{Nothing, Text, Pair, Inner}}
-use Rattle.rfc_fields.specs.{CommentScan.{after, after_any, behind, closing, lead}, declared.comments.Nesting.Nesting}
-use Rattle.rfc_fields.specs.declared.comments.Progress.TheVariants.{Within, Closed, Never}
-use Rattle.rfc_fields.proofs.GrammarLemmas.{not_true}
+use Rattle.{http_header.specs.Token.is_value_byte, rfc_fields.specs.Comments.Content.{Inner, Nothing, Pair, Text}}
+use Rattle.rfc_fields.{proofs.GrammarLemmas.not_true, specs.CommentScan.{after, after_any, behind, closing, lead}}
+use Rattle.rfc_fields.specs.Comments.{CommentsParseOneWay, Content, HasComment, content_text, is_content, is_ctext}
+use Rattle.rfc_fields.specs.declared.comments.{Nesting.Nesting, Progress.TheVariants.{Closed, Never, Within}}
+use Rattle.std.proofs.Common.{Bool, List, None, Option, Some, [], add-one, ap, arith, cond, drop, false, get_or, length}
+use Rattle.std.proofs.Common.{not, refl, subst, suc, sym, true, zero, ℕ, ◌++◌, ◌+◌, ◌<◌, ◌∙◌, ◌∷◌, ◌≡◌, ◌≤◌}
+use Rattle.std.{proofs.{Math.Seq.drop-cons, lemmas.Grind.common_steps}, specs.Prelude.{◌&&◌, ◌==◌}}
+use Rattle.std.proofs.lemmas.{Bool.{and_parts, eqb-true}, List.{append_assoc, drop_all}, Option.{none-some, same_Some}}
 
 abbrev at : ℕ → Bool → Nesting
 at outer escaped = record { outer = outer; is_escaped = escaped }
@@ -60,14 +59,9 @@ passes (Pair b c) d s h =
     let x = and_parts (is_value_byte b) (is_content c) h in
     behind-within (at d false) (at d true) 92 (b ∷ (content_text c ++ s)) refl
     ∙ behind-within (at d true) (at d false) b (content_text c ++ s) (after-escaped d b x.0) ∙ passes c d s x.1
-passes (Inner i c) d s h = grind (
-  arith,
-  and_parts,
-  behind-within,
-  append_assoc,
-  passes i (suc d) (41 ∷ (content_text c ++ s)) (and_parts (is_content i) (is_content c) h).0,
-  passes c d s (and_parts (is_content i) (is_content c) h).1,
-)
+passes (Inner i c) d s h = grind (arith, common_steps, and_parts, behind-within, append_assoc,
+    passes i (suc d) (41 ∷ (content_text c ++ s)) (and_parts (is_content i) (is_content c) h).0,
+    and_parts (is_content i) (is_content c) h, passes c d s (and_parts (is_content i) (is_content c) h).1)
 
 -- what follows a comment is what the scan behind its first parenthesis finds
 pub behind-comment : (text rest : List ℕ) → HasComment text rest → behind (at 0 false) (drop 1 text) ≡ Some rest
@@ -176,9 +170,7 @@ closes [] d e r h = absurd (none-some r h)
 closes (b ∷ s) d e r h = value_case b d e s r (closes s) (is_value_byte b) refl h
 
 comment-behind : (s rest : List ℕ) → behind (at 0 false) s ≡ Some rest → HasComment (40 ∷ s) rest
-comment-behind s rest h =
-    let l = closes s 0 false rest h in
-    record { content = l.content; valid = l.valid; written = ap (λ x. 40 ∷ x) l.written }
+comment-behind s rest h = grind (arith, common_steps, closes s 0 false rest h)
 
 -- a text that begins with a parenthesis, read to the end of the outermost comment
 pub closed_comment : (n : Nesting) (i : ℕ) (s : List ℕ) → i < length s → get_or s 0 0 ≡ 40

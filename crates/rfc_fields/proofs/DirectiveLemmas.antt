@@ -1,12 +1,12 @@
 -- What a text that is a directive begins with, and that it is one directive only.
-use Rattle.std.proofs.Common.{◌≡◌, ℕ, suc, ◌+◌, ◌-◌, ◌<◌, Bool, true, false, not, cond, List, [], ◌∷◌, ◌++◌, length}
-use Rattle.std.proofs.Common.{get_or, take, drop, Option, Some, None, refl, sym, ◌∙◌, ap, arith, length-drop}
-use Rattle.std.proofs.{Math.Seq.take-append_seam, lemmas.List.{take_all, take-append-drop, Folds.length-prefix_len}}
-use Rattle.std.{proofs.lemmas.Bool.{and_parts, ne_eqb}, specs.{Prelude.{◌&&◌, ◌==◌}, List.{list_all, prefix_len}}}
-use Rattle.{http_header.specs.Token.is_token_byte, rfc_fields.specs.Values.{ValueParts, is_token, is_value, value_text}}
-use Rattle.rfc_fields.specs.{Values.ValueParts.{TokenText, QuotedText}, Directives.{DirectiveParts, IsDirective}}
-use Rattle.rfc_fields.specs.Directives.{IsArgument, argument_text, is_argument, is_directive}
-use Rattle.rfc_fields.proofs.GrammarLemmas.{false_true}
+use Rattle.{http_header.specs.Token.is_token_byte, rfc_fields.proofs.GrammarLemmas.false_true}
+use Rattle.rfc_fields.specs.Directives.{DirectiveParts, IsArgument, IsDirective, argument_text, is_argument}
+use Rattle.rfc_fields.specs.{Directives.is_directive, Values.{ValueParts, ValueParts.{QuotedText, TokenText}, is_token}}
+use Rattle.{rfc_fields.specs.Values.{is_value, value_text}, std.proofs.Common.{Bool, List, None, Option, Some, [], ap}}
+use Rattle.std.proofs.Common.{arith, cond, drop, false, get_or, length, length-drop, not, refl, suc, sym, take, true, ℕ}
+use Rattle.std.proofs.{Common.{◌++◌, ◌+◌, ◌-◌, ◌<◌, ◌∙◌, ◌∷◌, ◌≡◌}, Math.Seq.take-append_seam, lemmas.Bool.and_parts}
+use Rattle.std.proofs.lemmas.{Bool.ne_eqb, Grind.common_steps, List.{Folds.length-prefix_len, take-append-drop}}
+use Rattle.std.{proofs.lemmas.List.take_all, specs.{List.{list_all, prefix_len}, Prelude.{◌&&◌, ◌==◌}}}
 
 -- the name ends where the bytes of a token do
 argument_ends : (a : Option ValueParts) → prefix_len is_token_byte (argument_text a) ≡ 0
@@ -16,12 +16,8 @@ argument_ends a = grind arith
 front-len : (name tail : List ℕ) → list_all is_token_byte name ≡ true → prefix_len is_token_byte tail ≡ 0
     → prefix_len is_token_byte (name ++ tail) ≡ length name
 front-len [] tail h k = k
-front-len (b ∷ name) tail h k = grind (
-  arith,
-  and_parts,
-  is_token_byte,
-  front-len name tail (and_parts (is_token_byte b) (list_all is_token_byte name) h).1 k,
-)
+front-len (b ∷ name) tail h k = grind (arith, common_steps, and_parts,
+    front-len name tail (and_parts (is_token_byte b) (list_all is_token_byte name) h).1 k)
 
 name_valid : (d : DirectiveParts) → is_directive d ≡ true → is_token d.name ≡ true
 name_valid d h = (and_parts (is_token d.name) (is_argument d.argument) h).0

@@ -1,13 +1,14 @@
 -- The loops over the members of a field.
-use Rattle.std.proofs.Common.{arith, ◌≡◌, ℕ, Bool, true, cond, List, [], ◌∷◌, ◌++◌, map, find, Option, Some, None, refl}
-use Rattle.std.proofs.{Common.{sym, ◌∙◌, ap, subst}, lemmas.{Bool.and_parts, List.{append-nil, Folds.list_all-append}}}
-use Rattle.{std.specs.{Prelude.◌&&◌, List.list_all}, headers_syntax.specs.Lines.Line, rfc_fields.specs.Scan.Member}
-use Rattle.rfc_fields.specs.Laws.{DirectivesParseOneWay, JoinKeepsDirectives, WellFormedFieldIsWhole}
-use Rattle.rfc_fields.specs.{Laws.MalformedIsClearOfNone, Members.{members, field_members, combined, is_whole}}
-use Rattle.rfc_fields.specs.{Members.is_well_formed, Directives.{DirectiveParts, IsMemberDirective, AreDirectives}}
-use Rattle.rfc_fields.specs.Directives.{FindsDirective, IsClearOf, HasOtherThanDirectives, directive_text}
-use Rattle.rfc_fields.specs.Directives.{directive_member, is_directive, is_named, or_named}
-use Rattle.rfc_fields.proofs.{DirectiveLemmas.directive_once, JoinLemmas.join_keeps_members, PieceLemmas.whole_members}
+use Rattle.{headers_syntax.specs.Lines.Line, rfc_fields.proofs.DirectiveLemmas.directive_once}
+use Rattle.rfc_fields.proofs.{JoinLemmas.join_keeps_members, PieceLemmas.whole_members}
+use Rattle.rfc_fields.specs.Directives.{AreDirectives, DirectiveParts, FindsDirective, HasOtherThanDirectives}
+use Rattle.rfc_fields.specs.Directives.{IsClearOf, IsMemberDirective, directive_member, directive_text, is_directive}
+use Rattle.rfc_fields.specs.{Directives.{is_named, or_named}, Laws.{DirectivesParseOneWay, JoinKeepsDirectives}}
+use Rattle.rfc_fields.specs.{Laws.{MalformedIsClearOfNone, WellFormedFieldIsWhole}, Members.{combined, field_members}}
+use Rattle.{rfc_fields.specs.{Members.{is_well_formed, is_whole, members}, Scan.Member}, std.proofs.Common.{Bool, List}}
+use Rattle.std.proofs.Common.{None, Option, Some, [], ap, arith, cond, find, map, refl, subst, sym, true, ℕ, ◌++◌, ◌∙◌}
+use Rattle.std.proofs.{Common.{◌∷◌, ◌≡◌}, lemmas.{Bool.and_parts, Grind.common_steps, List.Folds.list_all-append}}
+use Rattle.std.{proofs.lemmas.List.append-nil, specs.{List.list_all, Prelude.◌&&◌}}
 
 -- the members up to what is left are directives, and the first of the name among them was found
 pub record SoFar (name : List ℕ) (initial left : List Member) (found : Option DirectiveParts) : Type 0 where
@@ -61,9 +62,7 @@ other_in [] (d ∷ ds) m rest e v =
       }),
     )
 other_in (x ∷ before) [] m rest e v = absurd (cc e)
-other_in (x ∷ before) (d ∷ ds) m rest e v =
-    let tails : map directive_member before ++ m ∷ rest ≡ map directive_member ds = cc in
-    other_in before ds m rest tails (and_parts (is_directive d) (list_all is_directive ds) v).1
+other_in (x ∷ before) (d ∷ ds) m rest e v = grind (arith, common_steps, other_in before ds m rest, and_parts)
 
 pub so_far_other : (lines : List Line) (name : List ℕ) (initial left rest : List Member) (m : Member)
     (found : Option DirectiveParts) → initial ≡ field_members true lines → SoFar name initial left found

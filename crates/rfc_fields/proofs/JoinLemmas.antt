@@ -1,13 +1,13 @@
 -- Lines that are joined by a comma and a space, and lines that end malformed.
-use Rattle.std.proofs.Common.{◌≡◌, ℕ, ◌+◌, Bool, true, false, cond, List, [], ◌∷◌, ◌++◌, refl, sym, ◌∙◌, ap, arith, inl}
-use Rattle.std.proofs.{Common.{inr, ◌⊎◌}, lemmas.{Bool.{and_parts, eqb-true}, List.{map-append, append_assoc}}}
-use Rattle.std.{proofs.lemmas.List.{append-nil, Elements.filter-append}, specs.{Prelude.◌==◌, List.list_all}}
-use Rattle.{headers_syntax.specs.Text.trim, rfc_fields.specs.Scan.{Member, state_after, is_cut, is_outside, closes}}
-use Rattle.rfc_fields.specs.{Scan.{push, pieces, Member.{Whole, Malformed}}, declared.scan.State.State}
-use Rattle.rfc_fields.specs.{declared.scan.State.TheVariants.{Outside, Inside, Escaped}, Members.{members_of, members}}
-use Rattle.rfc_fields.specs.{Members.combined, Laws.{KeepsMembersBefore, JoinKeepsMembers, EndsMalformed}}
-use Rattle.rfc_fields.{specs.Laws.MalformedComesLast, proofs.{ScanLemmas.pieces-push, GrammarLemmas.false_true}}
-use Rattle.rfc_fields.proofs.PieceLemmas.{SomePieces, some_pieces, cut_outside, no_members}
+use Rattle.{headers_syntax.specs.Text.trim, rfc_fields.proofs.{GrammarLemmas.false_true, PieceLemmas.SomePieces}}
+use Rattle.rfc_fields.proofs.{PieceLemmas.{cut_outside, no_members, some_pieces}, ScanLemmas.pieces-push}
+use Rattle.rfc_fields.specs.Laws.{EndsMalformed, JoinKeepsMembers, KeepsMembersBefore, MalformedComesLast}
+use Rattle.rfc_fields.specs.{Members.{combined, members, members_of}, Scan.{Member, Member.{Malformed, Whole}, closes}}
+use Rattle.rfc_fields.specs.{Scan.{is_cut, is_outside, pieces, push, state_after}, declared.scan.State.State}
+use Rattle.{rfc_fields.specs.declared.scan.State.TheVariants.{Escaped, Inside, Outside}, std.proofs.Common.{Bool, List}}
+use Rattle.std.proofs.Common.{[], ap, arith, cond, false, inl, inr, refl, sym, true, ℕ, ◌++◌, ◌+◌, ◌∙◌, ◌∷◌, ◌≡◌, ◌⊎◌}
+use Rattle.std.proofs.lemmas.{Bool.{and_parts, eqb-true}, Grind.common_steps, List.{Elements.filter-append, append-nil}}
+use Rattle.std.{proofs.lemmas.List.{append_assoc, map-append}, specs.{List.list_all, Prelude.◌==◌}}
 
 push-append : (b : ℕ) (ps qs : List Member) → SomePieces ps → push b (ps ++ qs) ≡ push b ps ++ qs
 unfolding push
@@ -95,13 +95,8 @@ Malforms q st s = (pieces 44 q st s ≡ Malformed ∷ []) ⊎ SplitsMalformed q 
 malforms_cut : (q : Bool) (st : State) (b : ℕ) (s : List ℕ) → is_cut 44 st b ≡ true → closes q st [] ≡ true
     → Malforms q Outside s → Malforms q st (b ∷ s)
 malforms_cut q st b s e o (inl h) = grind (arith, cut_is)
-malforms_cut q st b s e o (inr h) = inr (record {
-  before = b ∷ h.before;
-  rest = h.rest;
-  text = ap (λ x. b ∷ x) h.text;
-  closed = closes_cons q st b h.before (cut_outside 44 q st b refl e) h.closed;
-  malformed = h.malformed;
-})
+malforms_cut q st b s e o (inr h) = grind (arith, common_steps,
+    closes_cons q st b h.before (cut_outside 44 q st b refl e) h.closed, cut_outside 44 q st b refl e)
 
 malforms_push : (q : Bool) (st : State) (b : ℕ) (s : List ℕ) → is_cut 44 st b ≡ false
     → Malforms q (state_after q st b) s → Malforms q st (b ∷ s)
@@ -129,17 +124,9 @@ malforms q st (b ∷ s) h = malforms_step q st b s (is_cut 44 st b) refl (malfor
 ends_malformed : (q : Bool) (s : List ℕ) → Malforms q Outside s → EndsMalformed q s
 unfolding closes
 ends_malformed q s (inl h) = grind (arith, no_members)
-ends_malformed q s (inr h) = record {
-  before = h.before ++ 44 ∷ [];
-  rest = h.rest;
-  text = h.text ∙ sym (append_assoc h.before (44 ∷ []) h.rest);
-  well_formed = closes-join q Outside h.before [] h.closed;
-  malformed = h.malformed;
-  members = ap (members q) h.text ∙ members-join q h.before h.rest h.closed
-      ∙ ap (λ ps. members q h.before ++ members_of ps) h.malformed
-      ∙ ap (λ ms. ms ++ Malformed ∷ []) (sym (members-join q h.before [] h.closed
-      ∙ ap (λ ms. members q h.before ++ ms) (no_members q) ∙ append-nil (members q h.before)));
-}
+ends_malformed q s (inr h) = grind (arith, common_steps, append_assoc h.before (44 ∷ []) h.rest,
+    closes-join q Outside h.before, members-join q h.before h.rest h.closed, members-join q h.before, no_members q,
+    append-nil (members q h.before))
 
 pub malformed_comes_last : MalformedComesLast
 malformed_comes_last q s h = ends_malformed q s (malforms q Outside s h)

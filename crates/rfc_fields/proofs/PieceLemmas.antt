@@ -1,10 +1,10 @@
 -- Pieces: that there is one, and which of them are whole.
-use Rattle.std.proofs.Common.{arith, ◌≡◌, ℕ, Bool, true, false, not, cond, List, [], ◌∷◌, length, refl, sym, ◌∙◌, ap}
-use Rattle.std.{proofs.lemmas.Bool.{and_parts, eqb-true}, specs.{Prelude.{◌&&◌, ◌==◌}, List.list_all}}
-use Rattle.{headers_syntax.specs.Text.trim, rfc_fields.specs.{Grammar.comma, Scan.{Member, state_after, is_cut}}}
-use Rattle.rfc_fields.specs.Scan.{closes, last_member, with_byte, push, pieces, Member.{Whole, Malformed}}
-use Rattle.rfc_fields.specs.{declared.scan.State.{State, TheVariants.Outside}, Members.{is_whole, members_of, members}}
-use Rattle.rfc_fields.proofs.GrammarLemmas.{false_true}
+use Rattle.rfc_fields.{proofs.GrammarLemmas.false_true, specs.{Grammar.comma, Members.{is_whole, members, members_of}}}
+use Rattle.rfc_fields.specs.Scan.{Member, Member.{Malformed, Whole}, closes, is_cut, last_member, pieces, push}
+use Rattle.rfc_fields.specs.{Scan.{state_after, with_byte}, declared.scan.State.{State, TheVariants.Outside}}
+use Rattle.std.proofs.Common.{Bool, List, [], ap, arith, cond, false, refl, sym, true, ℕ, ◌∙◌, ◌∷◌, ◌≡◌}
+use Rattle.std.{proofs.lemmas.{Bool.{and_parts, eqb-true}, Grind.common_steps}, specs.{List.list_all, Prelude.◌&&◌}}
+use Rattle.std.specs.Prelude.{◌==◌}
 
 -- some pieces, of which there's one at least
 pub record SomePieces (ps : List Member) : Type 0 where
@@ -32,12 +32,7 @@ whole_push b ps = grind arith
 pub whole_members_of : (ps : List Member) → list_all is_whole (members_of ps) ≡ list_all is_whole ps
 whole_members_of [] = refl
 whole_members_of (Malformed ∷ ps) = refl
-whole_members_of (Whole s ∷ ps) = whole_kept (not (length (trim s) == 0)) (trim s) ps (whole_members_of ps)
-  where
-    whole_kept : (c : Bool) (t : List ℕ) (ps : List Member) → list_all is_whole (members_of ps) ≡ list_all is_whole ps
-        → list_all is_whole (cond c (Whole t ∷ members_of ps) (members_of ps)) ≡ list_all is_whole ps
-    whole_kept true t ps h = h
-    whole_kept false t ps h = h
+whole_members_of (Whole s ∷ ps) = grind (arith, common_steps, whole_members_of ps)
 
 -- behind a separator that cuts, the scan is outside
 pub cut_outside : (sep : ℕ) (q : Bool) (st : State) (b : ℕ) → (sep == 34) ≡ false → is_cut sep st b ≡ true

@@ -1,10 +1,10 @@
 -- What stands between quotes, and its octets.
-use Rattle.std.proofs.Common.{◌≡◌, ℕ, Bool, true, false, not, cond, List, [], ◌∷◌, Some, None, refl, ◌∙◌, ap}
-use Rattle.std.{proofs.lemmas.Bool.{and_parts, eqb-true}, specs.{Prelude.{◌&&◌, ◌==◌}, Option.option_map_or}}
-use Rattle.{std.specs.List.{flat_map, list_all}, http_header.specs.Token.is_value_byte, rfc_fields.specs.Grammar.Octet}
-use Rattle.rfc_fields.specs.{Grammar.{is_octet, octet_text, Octet.{Plain, Pair}}, Laws.QuotedTextsParse}
-use Rattle.rfc_fields.specs.{Laws.QuotedTextsAreOctets, Values.{is_quoted_text, is_qdtext, octets_from}}
-use Rattle.rfc_fields.proofs.GrammarLemmas.{false_true, not_true}
+use Rattle.{http_header.specs.Token.is_value_byte, rfc_fields.proofs.GrammarLemmas.{false_true, not_true}}
+use Rattle.rfc_fields.specs.{Grammar.{Octet, Octet.{Pair, Plain}, is_octet, octet_text}, Laws.QuotedTextsAreOctets}
+use Rattle.rfc_fields.specs.{Laws.QuotedTextsParse, Values.{is_qdtext, is_quoted_text, octets_from}}
+use Rattle.std.proofs.Common.{Bool, List, None, Some, [], ap, arith, cond, false, refl, true, ℕ, ◌∙◌, ◌∷◌, ◌≡◌}
+use Rattle.std.{proofs.lemmas.{Bool.{and_parts, eqb-true}, Grind.common_steps}, specs.List.{flat_map, list_all}}
+use Rattle.std.specs.{Option.option_map_or, Prelude.{◌&&◌, ◌==◌}}
 
 octets-plain : (b : ℕ) (s : List ℕ) → (b == 92) ≡ false → octets_from false (b ∷ s) ≡ b ∷ octets_from false s
 unfolding octets_from
@@ -17,24 +17,9 @@ octets-pair b s = refl
 pub quoted_texts_parse : QuotedTextsParse
 unfolding is_quoted_text octets_from
 quoted_texts_parse [] h = (refl, refl)
-quoted_texts_parse (Plain b ∷ os) h =
-    let x = and_parts (is_qdtext b) (list_all (is_octet true) os) h in
-    let y = and_parts (is_value_byte b && not (b == 34)) (not (b == 92)) x.0 in
-    let n : (b == 92) ≡ false = not_true (b == 92) y.1 in
-    let rest = quoted_texts_parse os x.1 in
-    let s = flat_map octet_text os in (
-      ap (λ c. option_map_or (λ next. is_quoted_text next s)
-          (cond c (Some true) (cond (is_qdtext b) (Some false) None)) false) n
-          ∙ ap (λ c. option_map_or (λ next. is_quoted_text next s) (cond c (Some false) None) false) x.0 ∙ rest.0,
-      octets-plain b s n ∙ ap (λ t. b ∷ t) rest.1,
-    )
-quoted_texts_parse (Pair b ∷ os) h =
-    let x = and_parts (is_value_byte b) (list_all (is_octet true) os) h in
-    let rest = quoted_texts_parse os x.1 in
-    let s = flat_map octet_text os in (
-      ap (λ c. option_map_or (λ next. is_quoted_text next s) (cond c (Some false) None) false) x.0 ∙ rest.0,
-      octets-pair b s ∙ ap (λ t. b ∷ t) rest.1,
-    )
+quoted_texts_parse (Plain b ∷ os) h = grind (arith, common_steps,
+    and_parts (is_qdtext b) (list_all (is_octet true) os) h, and_parts, not_true, quoted_texts_parse os, octets-plain)
+quoted_texts_parse (Pair b ∷ os) h = grind (arith, common_steps, and_parts, quoted_texts_parse os, octets-pair)
 
 -- octets of a text, and for one just past a backslash the octet before them
 pub record Between (s : List ℕ) : Type 0 where

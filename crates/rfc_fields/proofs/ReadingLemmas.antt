@@ -1,11 +1,11 @@
 -- A well formed text is a list by the grammar.
-use Rattle.std.proofs.Common.{arith, ◌≡◌, ℕ, Bool, true, false, not, cond, List, [], ◌∷◌, ◌++◌, refl, sym, ◌∙◌, ap}
-use Rattle.std.{proofs.lemmas.{Bool.{and_parts, eqb-true}, List.append_assoc}, specs.Prelude.{◌&&◌, ◌==◌}}
-use Rattle.{std.specs.List.{flat_map, list_all}, http_header.specs.Token.is_value_byte, rfc_fields.specs.Grammar.Octet}
-use Rattle.rfc_fields.specs.Grammar.{Part, Element, is_octet, octet_text, is_part, part_text, is_element, element_text}
-use Rattle.rfc_fields.specs.{Grammar.{list_text, IsList, Octet.{Plain, Pair}, Part.{Byte, Quoted}}, Scan.state_after}
-use Rattle.rfc_fields.specs.{Scan.closes, Laws.HasAReading, declared.scan.State.{State, TheVariants.{Outside, Inside}}}
-use Rattle.rfc_fields.{specs.declared.scan.State.TheVariants.Escaped, proofs.GrammarLemmas.false_true}
+use Rattle.{http_header.specs.Token.is_value_byte, rfc_fields.proofs.GrammarLemmas.false_true}
+use Rattle.rfc_fields.specs.Grammar.{Element, IsList, Octet, Part, element_text, is_element, is_octet, list_text}
+use Rattle.{rfc_fields.specs.Grammar.{Octet.{Pair, Plain}, octet_text, part_text}, std.proofs.lemmas.List.append_assoc}
+use Rattle.{rfc_fields.specs.{Grammar.Part.{Byte, Quoted}, Scan.{closes, state_after}}, std.specs.Prelude.{◌&&◌, ◌==◌}}
+use Rattle.rfc_fields.specs.{Laws.HasAReading, declared.scan.State.{State, TheVariants.{Escaped, Inside, Outside}}}
+use Rattle.std.proofs.Common.{Bool, List, [], ap, arith, cond, false, not, refl, sym, true, ℕ, ◌++◌, ◌∙◌, ◌∷◌, ◌≡◌}
+use Rattle.std.{proofs.lemmas.{Bool.{and_parts, eqb-true}, Grind.common_steps}, specs.List.{flat_map, list_all}}
 
 -- s is the rest of what stands between two quotes, and then of a list
 pub record EndsQuoted (sep : ℕ) (p : Bool) (s : List ℕ) : Type 0 where
@@ -55,15 +55,7 @@ outside_separator sep p b s e r = record {
 
 outside_byte : (sep : ℕ) (p : Bool) (b : ℕ) (s : List ℕ) → is_value_byte b ≡ true → (b == 34) ≡ false
     → (b == sep) ≡ false → IsList sep p s → IsList sep p (b ∷ s)
-outside_byte sep p b s v q k r =
-    let bare : is_part sep p (Byte b) ≡ true = ap (λ x. x && not (b == 34) && not (b == sep)) v
-    ∙ ap (λ x. true && not x && not (b == sep)) q ∙ ap (λ x. true && true && not x) k in
-    record {
-      first = Byte b ∷ r.first;
-      others = r.others;
-      valid = ap (λ x. (x && is_element sep p r.first) && list_all (is_element sep p) r.others) bare ∙ r.valid;
-      text = ap (λ x. b ∷ x) r.text ∙ sym (list_text-part sep (Byte b) r.first r.others);
-    }
+outside_byte sep p b s v q k r = grind (arith, common_steps, list_text-part sep (Byte b) r.first r.others)
 
 inside_quote : (sep : ℕ) (p : Bool) (b : ℕ) (s : List ℕ) → b ≡ 34 → IsList sep p s → EndsQuoted sep p (b ∷ s)
 inside_quote sep p b s e r = record {
@@ -115,15 +107,11 @@ unfolding closes
 reading sep p Outside [] v h = record { first = []; others = []; valid = refl; text = refl }
 reading sep p Inside [] v h = absurd (false_true h)
 reading sep p Escaped [] v h = absurd (false_true h)
-reading sep p Outside (b ∷ s) v h =
-    let x = and_parts (is_value_byte b) (list_all is_value_byte s) v in
-    outside_case sep p b s (b == 34) (b == sep) refl refl x.0 (reading sep p (state_after p Outside b) s x.1 h)
-reading sep p Inside (b ∷ s) v h =
-    let x = and_parts (is_value_byte b) (list_all is_value_byte s) v in
-    inside_case sep p b s (b == 34) (p && b == 92) refl refl x.0 (reading sep p (state_after p Inside b) s x.1 h)
-reading sep p Escaped (b ∷ s) v h =
-    let x = and_parts (is_value_byte b) (list_all is_value_byte s) v in
-    record { octet = b; after = s; value = x.0; text = refl; ends = reading sep p Inside s x.1 h }
+reading sep p Outside (b ∷ s) v h = grind (arith, common_steps,
+    and_parts (is_value_byte b) (list_all is_value_byte s) v, outside_case, reading sep p (state_after p Outside b) s)
+reading sep p Inside (b ∷ s) v h = grind (arith, common_steps, and_parts (is_value_byte b) (list_all is_value_byte s) v,
+    inside_case, reading sep p (state_after p Inside b) s)
+reading sep p Escaped (b ∷ s) v h = grind (arith, common_steps, and_parts, reading sep p Inside s)
 
 pub has_a_reading : HasAReading
 has_a_reading sep p s v h = reading sep p Outside s v h

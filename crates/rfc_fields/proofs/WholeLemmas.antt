@@ -1,14 +1,14 @@
 -- A whole member is well formed by itself.
-use Rattle.std.proofs.Common.{◌≡◌, ℕ, zero, suc, ◌+◌, ◌-◌, ◌≤◌, Bool, true, false, not, cond, List, [], ◌∷◌, ◌++◌}
-use Rattle.std.proofs.Common.{length, get_or, take, drop, refl, sym, ◌∙◌, ap, subst, arith, inl, inr}
-use Rattle.std.proofs.{Math.Seq.take-suc, lemmas.List.{take_all, Sums.{suffix_len-take_yes, suffix_len-take_no}}}
-use Rattle.std.{proofs.lemmas.Bool.{and_parts, cases_Bool, eqb-true, or_cases}, specs.Prelude.{◌&&◌, ◌==◌}}
-use Rattle.{std.specs.List.{list_all, prefix_len, suffix_len}, headers_syntax.specs.Text.{trim, trim_start, is_blank}}
-use Rattle.rfc_fields.specs.{Grammar.comma, Scan.{Member, is_outside, state_after, is_cut, closes, last_member, push}}
-use Rattle.rfc_fields.specs.{Scan.{pieces, Member.{Whole, Malformed}}, Members.{members_of, closes_member}}
-use Rattle.rfc_fields.specs.{Laws.{PartsAreWhole, WholeMembersAreWellFormed}, declared.scan.State.State}
-use Rattle.rfc_fields.specs.declared.scan.State.TheVariants.{Outside, Inside, Escaped}
-use Rattle.rfc_fields.proofs.{PieceLemmas.whole_pieces, GrammarLemmas.false_true}
+use Rattle.{headers_syntax.specs.Text.{is_blank, trim, trim_start}, rfc_fields.proofs.GrammarLemmas.false_true}
+use Rattle.rfc_fields.{proofs.PieceLemmas.whole_pieces, specs.{Grammar.comma, Laws.PartsAreWhole}}
+use Rattle.rfc_fields.specs.{Laws.WholeMembersAreWellFormed, Members.{closes_member, members_of}, Scan.Member}
+use Rattle.rfc_fields.specs.Scan.{Member.{Malformed, Whole}, closes, is_cut, is_outside, last_member, pieces, push}
+use Rattle.rfc_fields.specs.{Scan.state_after, declared.scan.State.{State, TheVariants.{Escaped, Inside, Outside}}}
+use Rattle.std.proofs.Common.{Bool, List, [], ap, arith, cond, drop, false, get_or, inl, inr, length, refl, subst, suc}
+use Rattle.std.proofs.{Common.{sym, take, true, zero, ℕ, ◌++◌, ◌+◌, ◌-◌, ◌∙◌, ◌∷◌, ◌≡◌, ◌≤◌}, Math.Seq.take-suc}
+use Rattle.std.proofs.lemmas.{Bool.{and_parts, cases_Bool, eqb-true, or_cases}, Grind.common_steps}
+use Rattle.std.{proofs.lemmas.List.{Sums.{suffix_len-take_no, suffix_len-take_yes}, take_all}, specs.List.list_all}
+use Rattle.std.specs.{List.{prefix_len, suffix_len}, Prelude.{◌&&◌, ◌==◌}}
 
 -- a blank leaves the state as it is, but behind a backslash
 blank_outside : (q : Bool) (b : ℕ) → is_blank b ≡ true → state_after q Outside b ≡ Outside
@@ -108,14 +108,7 @@ members_of_close : (q : Bool) (ps : List Member) → PiecesClose q Outside ps
     → list_all (closes_member q) (members_of ps) ≡ true
 members_of_close q [] h = refl
 members_of_close q (Malformed ∷ ps) h = members_of_close q ps h.1
-members_of_close q (Whole s ∷ ps) h =
-    kept q (not (length (trim s) == 0)) (trim s) ps (trim_closes q s h.0) (members_of_close q ps h.1)
-  where
-    kept : (q c : Bool) (t : List ℕ) (ps : List Member) → closes q Outside t ≡ true
-        → list_all (closes_member q) (members_of ps) ≡ true
-        → list_all (closes_member q) (cond c (Whole t ∷ members_of ps) (members_of ps)) ≡ true
-    kept q true t ps h k = ap (λ c. c && list_all (closes_member q) (members_of ps)) h ∙ k
-    kept q false t ps h k = k
+members_of_close q (Whole s ∷ ps) h = grind (arith, common_steps, trim_closes q s h.0, members_of_close q ps h.1)
 
 pub whole_members_close : WholeMembersAreWellFormed
 whole_members_close q line = members_of_close q (pieces comma q Outside line) (pieces_close comma q Outside line)

@@ -1,12 +1,9 @@
-use Rattle.std.{proofs.Common.{sym, ◌∙◌, ◌+◌, subst, arith}, proofs.lemmas.List.take_rest}
-use Rattle.rfc_fields.{specs.Comments.HasComment, proofs.CommentLemmas.{behind-end, closed_comment, never-next}}
-use Rattle.rfc_fields.proofs.CommentLemmas.{no_comment, within-next}
+use Rattle.rfc_fields.proofs.CommentLemmas.{behind-end, closed_comment, never-next, no_comment, within-next}
+use Rattle.std.proofs.{Common.{arith, sym, ◌∙◌}, lemmas.{Grind.common_steps, List.take_rest}}
 use Rattle.rfc_fields.proofs.comments.skip_comment.Goals as goal
 
 pub returns-in-Closed : goal.returns-in-Closed
-returns-in-Closed c = subst (HasComment c.args.text.now) (sym (take_rest c.args.text.now (c.loop-place.place + 1)))
-    (closed_comment c.loop-place.nesting c.loop-place.place c.args.text.now c.loop-place-test.true c.if-text-ne40.false
-    (sym c.after.ensures.value ∙ c.in-Closed.is) c.loop-place.invariant.0)
+returns-in-Closed c = grind (arith, common_steps, take_rest, closed_comment)
 
 pub returns-in-Never : goal.returns-in-Never
 returns-in-Never c = no_comment _
