@@ -1,10 +1,8 @@
 -- What the comparison of values says of their lines, and what is left of lists that are compared.
-use Rattle.std.proofs.Common.{◌≡◌, ◌≢◌, List, [], ◌∷◌, All, Option, Some, None, refl, sym, inl, inr}
-use Rattle.std.proofs.lemmas.{Bool.cases_Bool, Slice.Eq.bytes_eq-Decides, List.Elements.{All-cons, All-tail}}
-use Rattle.std.specs.{Prelude.{Bool, true, false, ◌↔◌, bytes_eq}, Bool.{Decides, MatchBool}}
-use Rattle.{std.specs.Cmp.Lexicographic.pointwise, http_header.specs.FieldValue.FieldValue}
-use Rattle.{headers.specs.Lines.lines_of, rfc_fields.specs.Scan.{Member, Member.{Whole, Malformed}}}
-use Rattle.cache_policy.specs.Varying.{AreSame, IsSame}
+use Rattle.{headers.specs.Lines.lines_of, http_header.specs.FieldValue.FieldValue, std.proofs.Common.{All, List, None}}
+use Rattle.std.proofs.{Common.{Option, Some, [], inl, inr, refl, sym, ◌∷◌, ◌≡◌, ◌≢◌}, lemmas.Bool.cases_Bool}
+use Rattle.std.{proofs.lemmas.{List.Elements.{All-cons, All-tail}, Slice.Eq.bytes_eq-Decides}, specs.Bool.Decides}
+use Rattle.std.specs.{Bool.MatchBool, Cmp.Lexicographic.pointwise, Prelude.{Bool, bytes_eq, false, true, ◌↔◌}}
 
 -- the first of a list, if it has one, and what comes after it
 abbrev pub IsFirst : {X : Type 0} → Option X → List X → List X → Type 0
@@ -46,13 +44,3 @@ equal_lines false xs ys h = λ e. let yes : have_same xs ys ≡ true = (same_lin
 -- if it holds of the first, it holds of all exactly if it holds of the others
 pub all_but_first : {X : Type 0} (P : X → Type 0) (x : X) (xs : List X) → P x → All P (x ∷ xs) ↔ All P xs
 all_but_first P x xs p = ((λ h. All-tail P x xs h), (λ h. All-cons P x xs p h))
-
--- lists with the same first member are the same exactly if their rests are
-pub same_but_first : (m n : Member) (ms ns : List Member) → IsSame m (Some n)
-    → AreSame (m ∷ ms) (n ∷ ns) ↔ AreSame ms ns
-same_but_first (Whole s) (Whole t) ms ns e = (
-  (λ h. (h.0, cc h.1)),
-  (λ h. (h.0, cc (e, h.1))),
-)
-same_but_first (Whole s) Malformed ms ns e = absurd e
-same_but_first Malformed n ms ns e = absurd e

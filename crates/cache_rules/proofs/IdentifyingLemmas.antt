@@ -1,16 +1,15 @@
 -- Which stored responses a 304 updates: all, one, or none.
-use Rattle.std.proofs.Common.{◌≡◌, ◌≢◌, ◌⊎◌, ◌↔◌, ℕ, ◌+◌, ◌<◌, ◌≤◌, List, [], ◌∷◌, ◌++◌, length, get_or, Option, Some}
-use Rattle.std.proofs.{Common.{None, inl, inr, refl, sym, ◌∙◌, ap, subst, arith, rules}, lemmas.Bool.cases_order}
-use Rattle.std.proofs.lemmas.List.{Quantifiers.all_pairs_push, Elements.{Contains-append_left, Contains-push}}
-use Rattle.std.proofs.lemmas.{List.Elements.{Contains-push_cases, Contains-get_or}, Option.{same_Some, slice_get_read}}
-use Rattle.std.{proofs.lemmas.Option.slice_get_within, specs.{Prelude.{IsSomeAnd, IsTrue, codes}, List.AllPairs}}
-use Rattle.{std.specs.List.{Contains, slice_get}, headers.specs.{LineMap.LineMap, Lines.{Line, only_line}}}
-use Rattle.{headers.specs.Typed.HasLine, cache_policy.specs.{Requests.Request, Updating.{HasStrongTag, HasValidator}}}
-use Rattle.{cache_policy.specs.Updating.is_weak, cache_rules.specs.Identifying.{IsIdentified, IsOnlyOne}}
-use Rattle.cache_rules.specs.{Identifying.{IsUpdatedAnswer, one_more}, Selection.{ArePlaces, IsAt, IsCandidate}}
-use Rattle.cache_rules.specs.{Selection.{IsOneAt, IsOnly, IsSelected, IsSought}, Stored.made_at}
+use Rattle.cache_policy.specs.{Requests.Request, Updating.{HasStrongTag, HasValidator, is_weak}}
+use Rattle.cache_rules.{proofs.SelectionLemmas.selects_one, specs.declared.stored.StoredResponse.StoredResponse}
+use Rattle.cache_rules.specs.{Identifying.{IsIdentified, IsOnlyOne, IsUpdatedAnswer, one_more}, Stored.made_at}
+use Rattle.cache_rules.specs.Selection.{ArePlaces, IsAt, IsCandidate, IsOneAt, IsOnly, IsSelected, IsSought}
 use Rattle.cache_rules.specs.declared.identifying.Found.{Found, TheVariants.{Nothing, One, Several}}
-use Rattle.cache_rules.{specs.declared.stored.StoredResponse.StoredResponse, proofs.SelectionLemmas.selects_one}
+use Rattle.headers.specs.{LineMap.LineMap, Lines.{Line, only_line}, Typed.HasLine}
+use Rattle.std.proofs.Common.{List, None, Option, Some, [], ap, arith, get_or, inl, inr, length, refl, rules, subst}
+use Rattle.std.proofs.{Common.{sym, ℕ, ◌++◌, ◌+◌, ◌<◌, ◌↔◌, ◌∙◌, ◌∷◌, ◌≡◌, ◌≢◌, ◌≤◌, ◌⊎◌}, lemmas.Bool.cases_order}
+use Rattle.std.proofs.lemmas.List.Elements.{Contains-append_left, Contains-get_or, Contains-push, Contains-push_cases}
+use Rattle.std.proofs.lemmas.{List.Quantifiers.all_pairs_push, Option.{same_Some, slice_get_read, slice_get_within}}
+use Rattle.std.specs.{List.{AllPairs, Contains, slice_get}, Prelude.{IsSomeAnd, IsTrue, codes}}
 
 only_member : (place other : ℕ) → Contains (place ∷ []) other → place ≡ other
 only_member place other among = elim (Contains-push_cases [] place other among) [
@@ -158,16 +157,6 @@ module _ (Is : StoredResponse → Type 0) (all : List StoredResponse) where
         (λ k other here has. one.2 k other (omega (arith, high, slice_get_within all k other here)) here has),
       )
 
-  pub end_nothing : (n : ℕ) (found : Found) → found ≡ Nothing → length all ≤ n → FoundBelow n found
-      → IsOnlyOne Is all None
-  end_nothing n found is high h =
-      let none : FoundBelow n Nothing = subst (FoundBelow n) is h in
-      λ place one _. none place one.0 (omega (arith, high, slice_get_within all place one.0 one.1)) one.1 one.2
-
-  pub end_several : (n : ℕ) (found : Found) → found ≡ Several → FoundBelow n found → IsOnlyOne Is all None
-  end_several n found is h =
-      let several : FoundBelow n Several = subst (FoundBelow n) is h in λ place one. several place
-
 -- ---- the validators of a 304
 
 only_is_there : (lines : List Line) → IsSomeAnd (only_line lines) (λ tag. ¬ (IsTrue (is_weak tag))) → HasLine lines
@@ -198,13 +187,6 @@ module _ (request : Request) (update : LineMap) (all : List StoredResponse) wher
       (λ identified. (h.each place).1 identified.sought),
     );
     ascending = h.ascending;
-  }
-
-  pub strong_identified : HasStrongTag update → (place : ℕ) → IsAt Sought all place → Identified place
-  strong_identified strong place h = record {
-    sought = h;
-    weak = λ not. absurd (not strong);
-    none = λ not. absurd (not (strong_is_validator update strong));
   }
 
   -- without a validator the only one

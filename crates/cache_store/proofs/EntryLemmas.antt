@@ -1,18 +1,18 @@
 -- What a store's entries are and count, before and after the calls of the map that has them.
-use Rattle.std.proofs.Common.{[], ◌++◌, ◌+◌, ◌-◌, ◌<◌, ◌∷◌, ◌≡◌, ◌≤◌, Bool, cond, false, List, not, suc, true, zero, ℕ}
-use Rattle.std.proofs.Common.{ap, arith, filter, get_or, length, None, Option, refl, Some, subst, sum_by, sym, take}
-use Rattle.std.proofs.Common.{◌∙◌, bytes_eq, option_map, slice_get, String, string_bytes, string_eq, Vec}
-use Rattle.std.proofs.lemmas.List.{length-map, length-take, length-take-le, Sums.sum_by-append, take-map, take_all}
-use Rattle.std.proofs.lemmas.{List.{Filters.sum_by-filter_both, Sums.{sum_by-cons, sum_by_more}}, Option.slice_get-map}
-use Rattle.std.proofs.lemmas.{Map.Keys.{IsDistinct-head, IsDistinct-tail}, Option.get_or_from_slice_get}
-use Rattle.std.{proofs.lemmas.{Slice.Eq.bytes_eq-Decides, Option.{slice_get-get_or, slice_get_within}}, specs.Prelude.⊤}
-use Rattle.std.{proofs.Math.Seq.take-length, specs.{Map.{keys_of, lookup, lookup_entry, remove_entry}, List.IsDistinct}}
-use Rattle.{std.specs.{List.AllByRecursion, Option.option_map_or}, lru.specs.LruCache.{lru_cache, promoted}}
-use Rattle.{lru.specs.LruCache.put_entries, cache_store.specs.Room.{HasRoom, IsCounted, IsLongestWithRoom}}
-use Rattle.{cache_rules.specs.declared.stored.StoredResponse.StoredResponse, cache_store.specs.Numbers.AreNumberedWith}
-use Rattle.cache_store.specs.Contents.{byte_count, bytes_at, Contents, is_for, IsAbsent, response_count, shown, Target}
-use Rattle.cache_store.specs.{Contents.{responses_at, shown_entry, used, with_target, without}, Numbers.times_in}
-use Rattle.cache_store.{specs.declared.limits.Limits.Limits, proofs.NumberLemmas.{numbered-fewer, numbered-later}}
+use Rattle.cache_rules.specs.declared.stored.StoredResponse.{StoredResponse}
+use Rattle.cache_store.{proofs.NumberLemmas.{numbered-fewer, numbered-later}, specs.Contents.{Contents, IsAbsent}}
+use Rattle.cache_store.specs.Contents.{Target, byte_count, bytes_at, is_for, response_count, responses_at, shown}
+use Rattle.cache_store.specs.{Contents.{shown_entry, used, with_target, without}, Numbers.{AreNumberedWith, times_in}}
+use Rattle.{cache_store.specs.{Room.{HasRoom, IsCounted}, declared.limits.Limits.Limits}, lru.specs.LruCache.lru_cache}
+use Rattle.{lru.specs.LruCache.{promoted, put_entries}, std.proofs.Common.{Bool, List, None, Option, Some, String, Vec}}
+use Rattle.std.proofs.Common.{[], ap, arith, bytes_eq, cond, false, filter, get_or, length, not, option_map, refl}
+use Rattle.std.proofs.Common.{slice_get, string_bytes, string_eq, subst, suc, sum_by, sym, take, true, zero, ℕ, ◌++◌}
+use Rattle.std.proofs.{Common.{◌+◌, ◌-◌, ◌<◌, ◌∙◌, ◌∷◌, ◌≡◌, ◌≤◌}, Math.Seq.take-length}
+use Rattle.std.proofs.lemmas.List.{Filters.sum_by-filter_both, Sums.{sum_by-append, sum_by-cons, sum_by_more}}
+use Rattle.std.proofs.lemmas.{List.{length-map, take-map, take_all}, Map.Keys.{IsDistinct-head, IsDistinct-tail}}
+use Rattle.std.proofs.lemmas.Option.{get_or_from_slice_get, slice_get-get_or, slice_get-map, slice_get_within}
+use Rattle.std.{proofs.lemmas.Slice.Eq.bytes_eq-Decides, specs.{List.{AllByRecursion, IsDistinct}, Map.keys_of}}
+use Rattle.std.specs.{Map.{lookup, lookup_entry, remove_entry}, Option.option_map_or, Prelude.⊤}
 
 abbrev pub Entries : Type 0 → Type 0 → Type 0
 Entries Y Z = List (String Y × Vec StoredResponse Z)
@@ -285,53 +285,12 @@ module _ {limits : Limits} {responses bytes next : ℕ} {old new : Contents} whe
         };
       }
 
-take-take-le : {X : Type 0} (m n : ℕ) (xs : List X) → m ≤ n → take m (take n xs) ≡ take m xs
-take-take-le zero n xs h = refl
-take-take-le (suc m) zero xs h = absurd (omega (arith, h))
-take-take-le (suc m) (suc n) [] h = refl
-take-take-le (suc m) (suc n) (x ∷ xs) h = ap (λ l. x ∷ l) (take-take-le m n xs (omega (arith, h)))
-
 -- the most recently used targets; one more would leave too little room, if there is one
 pub record IsFrontWithout (limits : Limits) (responses bytes : ℕ) (old new : Contents) : Type 0 where
   pub count : ℕ
   pub within : count ≤ length old
   pub front : new ≡ take count old
   pub longest : count < length old → ¬ (HasRoom limits responses bytes (take (count + 1) old))
-
-module _ (limits : Limits) (responses bytes : ℕ) where
-  pub front-all : (old : Contents) → IsFrontWithout limits responses bytes old old
-  front-all old = let front = sym (take-length old) in
-      record { count = length old; within = omega arith; front = front; longest = λ past. absurd (omega (arith, past)) }
-
-  module _ (few : responses ≤ limits.responses) (light : bytes ≤ limits.bytes) where
-    not_empty : (mid : Contents) → ¬ (HasRoom limits responses bytes mid) → 0 < length mid
-    not_empty [] cramped = absurd (cramped (record { few = omega (arith, few); light = omega (arith, light) }))
-    not_empty (entry ∷ mid) cramped = omega arith
-
-    module _ (mid new : Contents) (cramped : ¬ (HasRoom limits responses bytes mid))
-        (left : new ≡ take (length mid - 1) mid) where
-      pub front-shorter : length new < length mid
-      front-shorter =
-          let some = not_empty mid cramped in rw left (rw (length-take (length mid - 1) mid) (omega (arith, some)))
-
-      pub front-next : (old : Contents) → IsFrontWithout limits responses bytes old mid
-          → IsFrontWithout limits responses bytes old new
-      front-next old front =
-          let some = not_empty mid cramped in
-          let long : length mid ≡ front.count = ap length front.front ∙ length-take-le front.count old front.within in
-          record {
-            count = front.count - 1;
-            within = omega (arith, front.within);
-            front = left ∙ ap (λ n. take (n - 1) mid) long ∙ ap (take (front.count - 1)) front.front
-                ∙ take-take-le (front.count - 1) front.count old (omega arith);
-            longest = λ _ room. cramped (subst (HasRoom limits responses bytes)
-                (ap (λ n. take n old) (omega (arith, some, long)) ∙ sym front.front) room);
-          }
-
-  pub front-done : (old new : Contents) → IsFrontWithout limits responses bytes old new
-      → HasRoom limits responses bytes new → IsLongestWithRoom limits responses bytes old new
-  front-done old new front room =
-      record { count = front.count; within = front.within; front = front.front; room = room; longest = front.longest }
 
 -- a target with responses is put first, and one without isn't there
 pub some-put : (target : List ℕ) (responses : List StoredResponse) (contents : Contents) {new : Contents}

@@ -1,11 +1,11 @@
 -- What calls leave of numbers.
-use Rattle.std.proofs.Common.{[], ◌++◌, ◌∷◌, ◌≡◌, ◌≤◌, ◌⊎◌, ap, arith, inl, List, None, Option, Some, subst, sym, ℕ}
-use Rattle.{std.proofs.Common.{◌∙◌, inr, option_to_list}, cache_store.specs.declared.limits.Limits.Limits}
-use Rattle.cache_rules.specs.{declared.stored.StoredResponse.StoredResponse, Stored.request_of_stored}
-use Rattle.cache_store.specs.{Contents.{Contents, responses_at, Target, used, with_target, without}, Changes.IsFront}
-use Rattle.cache_store.specs.{History.{GoOn, Has, HasUnder}, Changes.IsInserted, Numbers.IsSameOrNumbered}
-use Rattle.cache_store.proofs.HistoryLemmas.{Has-append, Has-take, Has-used, HasUnder-responses_at, under-put}
-use Rattle.cache_store.proofs.HistoryLemmas.{Has-drop, Has-rest, Has-without, HasUnder-weaker, under-with_target}
+use Rattle.cache_rules.specs.{Stored.request_of_stored, declared.stored.StoredResponse.StoredResponse}
+use Rattle.cache_store.proofs.HistoryLemmas.{Has-append, Has-drop, Has-rest, Has-take, Has-used, Has-without}
+use Rattle.cache_store.proofs.HistoryLemmas.{HasUnder-responses_at, HasUnder-weaker, under-put, under-with_target}
+use Rattle.cache_store.specs.{Changes.{IsFront, IsInserted}, Contents.{Contents, Target, responses_at, used}}
+use Rattle.cache_store.specs.{Contents.{with_target, without}, History.{GoOn, Has, HasUnder}, Numbers.IsSameOrNumbered}
+use Rattle.{cache_store.specs.declared.limits.Limits.Limits, std.proofs.Common.{List, None, Option, Some, [], ap}}
+use Rattle.std.proofs.Common.{arith, inl, inr, option_to_list, subst, sym, ℕ, ◌++◌, ◌∙◌, ◌∷◌, ◌≡◌, ◌≤◌, ◌⊎◌}
 
 -- those that are left so far, and one more
 pub kept-next : (all left next others these : List StoredResponse) (one : StoredResponse) (fate : Option StoredResponse)
@@ -32,9 +32,6 @@ module _ (next : ℕ) (old : Contents) (later : ℕ) (new : Contents) (rises : n
   goes-fewer : ((entry : Target) → Has new entry → Has old entry) → GoOn next old later new
   goes-fewer fewer =
       record { rises = rises; kept = λ target stored h. inl (HasUnder-weaker old new fewer target stored h) }
-
-  pub goes-same : new ≡ old → GoOn next old later new
-  goes-same same = goes-fewer (λ entry h. subst (λ l. Has l entry) same h)
 
   pub goes-used : (target : List ℕ) → new ≡ used target old → GoOn next old later new
   goes-used target moved = goes-fewer (λ entry h. Has-used target old entry (subst (λ l. Has l entry) moved h))

@@ -1,12 +1,12 @@
 -- What a new response takes away.
-use Rattle.std.proofs.Common.{[], ◌++◌, ◌+◌, ◌-◌, ◌<◌, ◌∷◌, ◌≡◌, ◌≢◌, drop, get_or, length, List, Ok, Option, Result, ℕ}
-use Rattle.std.proofs.{Common.{◌∙◌, ap, arith, inl, inr, refl, remove, Some, subst, sym}, lemmas.List.drop-drop}
-use Rattle.{cache_policy.specs.Requests.Request, std.proofs.lemmas.Option.get_or_from_slice_get}
-use Rattle.cache_rules.specs.{Selection.IsChosen, Stored.request_of_stored}
-use Rattle.{cache_rules.specs.declared.stored.StoredResponse.StoredResponse, cache_store.specs.Changes.FitsAlone}
-use Rattle.cache_store.specs.{Changes.{IsInserted, IsRest, IsTrimmed}, Contents.{bytes_at, Contents, IsAbsent}}
-use Rattle.cache_store.specs.{Contents.{responses_at, size_at, without}, Room.IsLongestWithRoom}
-use Rattle.cache_store.{specs.declared.limits.Limits.Limits, proofs.EntryLemmas.{IsAbsent-take, IsAbsent-without}}
+use Rattle.{cache_policy.specs.Requests.Request, cache_rules.specs.{Selection.IsChosen, Stored.request_of_stored}}
+use Rattle.cache_rules.specs.declared.stored.StoredResponse.{StoredResponse}
+use Rattle.cache_store.{proofs.EntryLemmas.{IsAbsent-take, IsAbsent-without}, specs.Changes.{FitsAlone, IsInserted}}
+use Rattle.cache_store.specs.{Changes.{IsRest, IsTrimmed}, Contents.{Contents, IsAbsent, bytes_at, responses_at}}
+use Rattle.cache_store.specs.{Contents.{size_at, without}, Room.IsLongestWithRoom, declared.limits.Limits.Limits}
+use Rattle.std.proofs.Common.{List, Ok, Option, Result, Some, [], ap, arith, drop, get_or, inl, inr, length, refl}
+use Rattle.std.proofs.{Common.{remove, subst, sym, ℕ, ◌++◌, ◌+◌, ◌-◌, ◌<◌, ◌∙◌, ◌∷◌, ◌≡◌, ◌≢◌}, lemmas.List.drop-drop}
+use Rattle.std.proofs.lemmas.Option.{get_or_from_slice_get}
 
 -- ---- those of the same target
 
@@ -20,9 +20,6 @@ module _ (limits : Limits) (target : List ℕ) (size : ℕ) where
     pub left : new ≡ drop count old
     pub fewest : 0 < count → ¬ (FitsAlone limits (length (drop (count - 1) old) + 1)
         (bytes_at target (drop (count - 1) old) + size))
-
-  pub trim-none : (old : List StoredResponse) → IsTrimming old old
-  trim-none old = record { count = 0; left = refl; fewest = λ some. absurd (omega (arith, some)) }
 
   pub trim-some : FitsAlone limits 1 size → (mid : List StoredResponse)
       → ¬ (FitsAlone limits (length mid + 1) (bytes_at target mid + size)) → 0 < length mid
@@ -41,11 +38,6 @@ module _ (limits : Limits) (target : List ℕ) (size : ℕ) where
     fewest = λ _ fits. cramped (subst (λ l. FitsAlone limits (length l + 1) (bytes_at target l + size))
         (ap (λ n. drop n old) (omega arith) ∙ sym trimming.left) fits);
   }
-
-  pub trim-done : (old new : List StoredResponse) → IsTrimming old new
-      → FitsAlone limits (length new + 1) (bytes_at target new + size) → IsTrimmed limits target size old new
-  trim-done old new trimming fits =
-      record { count = trimming.count; left = trimming.left; fits = fits; fewest = trimming.fewest }
 
 -- ---- those that a new one supersedes
 

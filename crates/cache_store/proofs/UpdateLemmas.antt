@@ -1,10 +1,11 @@
 -- What is left of stored responses that another one validates.
-use Rattle.std.proofs.Common.{◌+◌, ◌≡◌, ◌≤◌, append_assoc, arith, length, length-append, List, option_to_list, subst, ℕ}
-use Rattle.{headers.specs.LineMap.{Field, LineMap}, std.proofs.Common.{[], ◌++◌, ◌∷◌, ap, None, Option, Some, sym}}
-use Rattle.{std.proofs.{lemmas.List.{append-nil, Elements.All-head}, Common.refl}, cache_policy.specs.Requests.Request}
-use Rattle.{cache_store.specs.Updates.{AreLeft, BecomesUpdated, IsOneTooSmallFor}, std.specs.List.{All, Contains}}
-use Rattle.{cache_policy.specs.Policies.Policy, cache_rules.specs.{Fields.IsTooSmallFor, Freshening.IsFreshenedAs}}
-use Rattle.cache_rules.specs.declared.{freshening.Exchange.Exchange, stored.StoredResponse.StoredResponse}
+use Rattle.{cache_policy.specs.{Policies.Policy, Requests.Request}, cache_rules.specs.Fields.IsTooSmallFor}
+use Rattle.cache_rules.specs.{Freshening.IsFreshenedAs, declared.freshening.Exchange.Exchange}
+use Rattle.{cache_rules.specs.declared.stored.StoredResponse.StoredResponse, cache_store.specs.Updates.AreLeft}
+use Rattle.{cache_store.specs.Updates.{BecomesUpdated, IsOneTooSmallFor}, headers.specs.LineMap.{Field, LineMap}}
+use Rattle.std.proofs.Common.{List, None, Option, Some, [], ap, append_assoc, arith, length, length-append}
+use Rattle.std.proofs.Common.{option_to_list, refl, subst, sym, ℕ, ◌++◌, ◌+◌, ◌∷◌, ◌≡◌, ◌≤◌}
+use Rattle.std.{proofs.lemmas.List.{Elements.All-head, append-nil}, specs.List.{All, Contains}}
 use Rattle.cache_rules.specs.declared.freshening.Freshened.TheVariants as outcomes
 
 module _ (B : StoredResponse → Option StoredResponse → Type 0) (all : List StoredResponse) where
@@ -31,11 +32,6 @@ next_too_small all these others one fields split among small = let among = All-h
     (subst (All (Contains all)) split among) in record { stored = one; among = among; small = small }
 
 module _ (policy : Policy) (request : Request) (update : LineMap) (exchange : Exchange) (old : StoredResponse) where
-  -- what is left of the response after `freshen`
-  pub becomes-stored : (new : StoredResponse) → IsFreshenedAs policy old request update exchange (outcomes.Stored new)
-      → BecomesUpdated policy request update exchange old (Some new)
-  becomes-stored new is = (is.1, is.2)
-
   pub becomes-none : (new : StoredResponse) → IsFreshenedAs policy old request update exchange (outcomes.Once new)
       → BecomesUpdated policy request update exchange old None
   becomes-none new is = (new, is.1, is.2)
