@@ -1,8 +1,7 @@
 -- Boundaries are text.
-use Rattle.std.{proofs.Common.{◌≡◌, ℕ, ◌<◌, true, List, rules}, specs.List.list_all, specs.Str.IsUtf8}
-use Rattle.std.{proofs.lemmas.List.Elements.All-weaker, proofs.lemmas.List.Sums.AllPass-from_list_all}
-use Rattle.std.{proofs.lemmas.Str.IsUtf8-from_ascii, proofs.lemmas.Str.Ascii.IsAscii-from_all}
-use Rattle.decide_preconditions.specs.Boundaries.{is_boundary, is_boundary_byte}
+use Rattle.{decide_preconditions.specs.Boundaries.{is_boundary, is_boundary_byte}, std.proofs.Common.{List, rules}}
+use Rattle.std.proofs.{Common.{true, ℕ, ◌<◌, ◌≡◌}, lemmas.List.{Elements.All-weaker, Sums.AllPass-from_list_all}}
+use Rattle.std.{proofs.lemmas.Str.{Ascii.IsAscii-from_all, IsUtf8-from_ascii}, specs.{List.list_all, Str.IsUtf8}}
 
 boundary_byte_ascii : (b : ℕ) → is_boundary_byte b ≡ true → b < 128
 boundary_byte_ascii b e = search rules

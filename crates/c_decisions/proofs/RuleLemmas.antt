@@ -1,14 +1,13 @@
 -- Values that lines read, one each, and what the lines of a text allow.
-use Rattle.std.proofs.Common.{◌≡◌, ◌∙◌, ℕ, zero, suc, ◌+◌, ◌<◌, true, false, List, [], ◌∷◌, ◌++◌, All, length, take}
-use Rattle.std.proofs.{Common.{get_or, refl, sym, ap, subst, arith, Result, Ok, Err}, lemmas.List.map-append}
-use Rattle.std.proofs.lemmas.List.{take_more, Elements.{All-cons, All-nil}, Sums.AllPass-from_list_all}
-use Rattle.std.{proofs.lemmas.Slice.{Eq.bytes_eq-Decides, Zip.all_zipped_more}, specs.{Global.Vec, List.AllZip}}
-use Rattle.{http_header.specs.{FieldValue.{FieldValue, IsFieldValue}, Token.is_value_byte}, headers.specs.Lines.Line}
-use Rattle.{headers.specs.{Lines.lines_of, Typed.HasLine}, decide_cors.specs.Browser.star}
-use Rattle.decide_cors.specs.declared.rules.Allowed.{Allowed, TheVariants.{Any, Listed}}
-use Rattle.c_parts.specs.{FieldText.field_lines, declared.status.Failure.{Failure, TheVariants.{Refused, Memory}}}
-use Rattle.{c_parts.specs.declared.status.Failure.TheVariants.{Absent, TooLarge}, c_decisions.specs.Methods.IsMethodOf}
+use Rattle.{c_decisions.specs.Methods.IsMethodOf, std.{proofs.lemmas.Slice.Zip.all_zipped_more, specs.List.AllZip}}
 use Rattle.c_decisions.specs.{Rules.{Allows, Finds, FindsOfLine, FindsOfText, ReadEach, reads_method}, Star.is_any}
+use Rattle.{c_parts.specs.FieldText.field_lines, headers.specs.Lines.{Line, lines_of}, std.specs.Global.Vec}
+use Rattle.c_parts.specs.declared.status.Failure.{Failure, TheVariants.{Absent, Memory, Refused, TooLarge}}
+use Rattle.decide_cors.specs.{Browser.star, declared.rules.Allowed.{Allowed, TheVariants.{Any, Listed}}}
+use Rattle.{headers.specs.Typed.HasLine, http_header.specs.{FieldValue.{FieldValue, IsFieldValue}, Token.is_value_byte}}
+use Rattle.std.proofs.Common.{All, Err, List, Ok, Result, [], ap, arith, false, get_or, length, refl, subst, suc, sym}
+use Rattle.std.proofs.{Common.{take, true, zero, ℕ, ◌++◌, ◌+◌, ◌<◌, ◌∙◌, ◌∷◌, ◌≡◌}, lemmas.Slice.Eq.bytes_eq-Decides}
+use Rattle.std.proofs.lemmas.List.{Elements.{All-cons, All-nil}, Sums.AllPass-from_list_all, map-append, take_more}
 
 -- a star may be a header value
 star_is_value : (lines : List Line) → is_any lines ≡ true → All IsFieldValue lines

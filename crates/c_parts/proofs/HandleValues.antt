@@ -1,20 +1,18 @@
 -- The machine values of a `RawBox` and of a handle. Assumes `Logic`.
-use Rattle.std.proofs.Common.{◌≡◌, ℕ, List, [], ◌∷◌, ◌++◌, refl, subst, ◌∙◌, lit<}
-use Rattle.std.specs.Prelude.{◌≢◌, Option, Some, None}
-use mathlib.Core.Bool.{Bool, true, false, ◌&&◌}
+use Rattle.core.{proofs.{alloc.Calls.{Al, handle_tells}, cell.Inside.Good}, specs.declared.alloc.Allocator.Ghosts}
+use Rattle.std.{proofs.Common.{List, [], lit<, refl, subst, ℕ, ◌++◌, ◌∙◌, ◌∷◌, ◌≡◌}, specs.Prelude.{None, Option, Some}}
+use Rattle.{std.specs.Prelude.◌≢◌, std_alloc.{proofs.ResultValues.and_tt, specs.Box.Ownership.box_owns}}
+use base.{Fml.Fml, Logic.{emp, ent, fst∗, never}}
+use denote.{Builtin.{RawPtr, bool}, Memory.lone, Param.{Laws.Laws, layout}, RattleType.{RattleType, Valss}, RawPtr.Ptr}
+use denote.{RawPtr.{block_ptr, in_a_block, null_ptr, ptr_val}, Shadow.{makes_shadow, shadow}, Steps.nothing}
+use denote.Struct.{Owning.shape, Struct.{Struct, within}}
 use lib.Dec.{T}
+use mathlib.Core.Bool.{Bool, false, true, ◌&&◌}
+use mir.{Raw.raw as bare, Syntax.{dnil, impl, tcons, tnil, ty_bool, ty_ptr, ty_struct}, Val.{Val, WT, has_ty, of_list}}
+use mir.Val.{vbool, vcons, vnil, vptr, vstruct}
 use seplogic.Ra.Ura.{Ura}
-use mir.Syntax.{impl, tnil, tcons, dnil, ty_ptr, ty_bool, ty_struct}
-use mir.Raw.{raw as bare}
-use mir.Val.{Val, vptr, vbool, vstruct, vcons, vnil, of_list, has_ty, WT}
-use base.{Logic.{ent, emp, never, fst∗}, Fml.Fml}
-use types.{Logic.{Logic, sem}, Kit.{Item, Goal, Seq, Step, step, ‵, ◌$◌, move, drop, fsplit, fjoin, fpick, fpack}}
-use types.Kit.{feq_i, feq_l}
-use denote.{RattleType.{RattleType, Valss}, Builtin.{RawPtr, bool}, Shadow.{shadow, makes_shadow}, Memory.lone}
-use denote.{RawPtr.{Ptr, block_ptr, null_ptr, ptr_val, in_a_block}, Steps.nothing, Param.{layout, Laws.Laws}}
-use denote.Struct.{Struct.{Struct, within}, Owning.shape}
-use Rattle.core.{specs.declared.alloc.Allocator.Ghosts, proofs.{alloc.Calls.{Al, handle_tells}, cell.Inside.Good}}
-use Rattle.std_alloc.{specs.Box.Ownership.box_owns, proofs.ResultValues.and_tt}
+use types.Kit.{Goal, Item, Seq, Step, drop, feq_i, feq_l, fjoin, fpack, fpick, fsplit, move, step, ‵, ◌$◌}
+use types.Logic.{Logic, sem}
 use Rattle.c_parts.specs.contracts.raw_box.RawBox as loose
 
 abbrev pub both : Val → Val → Val

@@ -1,9 +1,8 @@
 -- The lines of a text, one after the other.
-use Rattle.std.proofs.Common.{◌≡◌, ℕ, List, [], ◌∷◌, ◌++◌, All, Contains, Option, Some, None, IfSome, IfNone, refl, sym}
-use Rattle.std.proofs.{Common.{◌∙◌, ap, subst, arith, append_assoc}, lemmas.List.{map-append, Elements.All-push}}
-use Rattle.std.proofs.lemmas.List.Elements.{All-contains, Contains-append_right}
-use Rattle.{http_header.specs.FieldValue.{FieldValue, IsFieldValue, plain_value}, headers.specs.Lines.{Line, lines_of}}
-use Rattle.headers_section.specs.Section.{input_lines}
+use Rattle.{headers.specs.Lines.{Line, lines_of}, http_header.specs.FieldValue.{FieldValue, IsFieldValue, plain_value}}
+use Rattle.{headers_section.specs.Section.input_lines, std.proofs.Common.{refl, subst, sym, ℕ, ◌++◌, ◌∙◌, ◌∷◌, ◌≡◌}}
+use Rattle.std.proofs.Common.{All, Contains, IfNone, IfSome, List, None, Option, Some, [], ap, append_assoc, arith}
+use Rattle.std.proofs.lemmas.List.{Elements.{All-contains, All-push, Contains-append_right}, map-append}
 use denote.Ref.{Bor}
 
 -- a text has a first line

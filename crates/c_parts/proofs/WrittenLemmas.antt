@@ -1,12 +1,11 @@
 -- A map of one name, and blocks of credentials.
-use Rattle.std.proofs.Common.{◌≡◌, ℕ, ◌+◌, ◌^◌, ◌<◌, true, List, [], ◌∷◌, ◌++◌, length, Some, None, Bool, Result, IfOk}
-use Rattle.std.{proofs.Common.{arith, refl, inl, inr, subst, sym}, specs.Prelude.{MatchBool, bytes_eq}}
-use Rattle.std.{proofs.lemmas.Result.IfOk-weaker, proofs.lemmas.Slice.Eq.bytes_eq-Decides}
-use Rattle.http_header.{specs.FieldValue.FieldValue, specs.HeaderMap.{Entries, RefusesAppend, append, get_all}}
-use Rattle.headers.{specs.Basic.UserPass, specs.Bearer.bearer_writes, specs.Lines.{Line, lines_of}, specs.Typed.HasLine}
-use Rattle.headers.specs.declared.authorization.Authorization.{Authorization}
-use Rattle.headers_section.specs.CanonicalText.{Block, IsBlock, IsTypedBlock}
 use Rattle.c_parts.specs.Written.{IsCredentialsBlock, IsWrittenBlock, has_credentials, reads_basic, reads_bearer}
+use Rattle.headers.specs.{Basic.UserPass, Bearer.bearer_writes, Lines.{Line, lines_of}, Typed.HasLine}
+use Rattle.{headers.specs.declared.authorization.Authorization.Authorization, std.specs.Prelude.{MatchBool, bytes_eq}}
+use Rattle.{headers_section.specs.CanonicalText.{Block, IsBlock, IsTypedBlock}, std.proofs.lemmas.Result.IfOk-weaker}
+use Rattle.http_header.specs.{FieldValue.FieldValue, HeaderMap.{Entries, RefusesAppend, append, get_all}}
+use Rattle.std.proofs.Common.{Bool, IfOk, List, None, Result, Some, [], arith, inl, inr, length, refl, subst, sym, true}
+use Rattle.std.proofs.{Common.{ℕ, ◌++◌, ◌+◌, ◌<◌, ◌^◌, ◌∷◌, ◌≡◌}, lemmas.Slice.Eq.bytes_eq-Decides}
 
 -- the map that has these values under the name, and nothing else
 abbrev pub alone : List ℕ → List FieldValue → Entries FieldValue

@@ -1,11 +1,10 @@
 -- What the fields of an update leave of a stored response, field by field.
-use Rattle.std.proofs.Common.{◌≡◌, ◌∙◌, ℕ, ◌<◌, Bool, true, false, List, [], ◌∷◌, length, refl, sym, ap, subst, arith}
-use Rattle.std.{proofs.Common.{inl, inr}, proofs.lemmas.Bool.{cases_Bool, lt-ltb}, proofs.lemmas.List.length-map}
-use Rattle.std.{proofs.lemmas.List.Elements.{All-head, All-tail}, proofs.lemmas.Slice.Eq.bytes_eq-Decides}
-use Rattle.std.{specs.Prelude.{All, ◌&&◌, not, nat_lt, bytes_eq, if◌then◌else◌}, specs.List.list_any}
-use Rattle.http_header.{specs.FieldValue.FieldValue, specs.HeaderMap.{Entries, IsHeaderMap, keys}}
-use Rattle.headers.{specs.LineMap.{LineMap, lines_at, set, set_all}, specs.Lines.{Line, lines_of}}
-use Rattle.cache_policy.specs.Freshening.{freshened, freshening_fields, is_kept, taken}
+use Rattle.{cache_policy.specs.Freshening.{freshened, freshening_fields, is_kept, taken}, std.proofs.Common.{◌∷◌, ◌≡◌}}
+use Rattle.headers.specs.{LineMap.{LineMap, lines_at, set, set_all}, Lines.{Line, lines_of}}
+use Rattle.{http_header.specs.{FieldValue.FieldValue, HeaderMap.{Entries, IsHeaderMap, keys}}, std.specs.List.list_any}
+use Rattle.std.proofs.Common.{Bool, List, [], ap, arith, false, inl, inr, length, refl, subst, sym, true, ℕ, ◌<◌, ◌∙◌}
+use Rattle.std.proofs.lemmas.{Bool.{cases_Bool, lt-ltb}, List.Elements.{All-head, All-tail}, Slice.Eq.bytes_eq-Decides}
+use Rattle.std.{proofs.lemmas.List.length-map, specs.Prelude.{All, bytes_eq, if◌then◌else◌, nat_lt, not, ◌&&◌}}
 
 -- the name is one of these
 abbrev is_among : List (List ℕ) → List ℕ → Bool

@@ -1,17 +1,16 @@
 -- What a malformed Cache-Control, a directive, and a method forbid.
-use Rattle.std.proofs.Common.{◌≡◌, ℕ, true, false, List, Option, Some, None, codes, refl, inl, inr, subst, sym}
-use Rattle.{std.specs.Prelude.◌⊎◌, headers.specs.LineMap.LineMap, cache_policy.specs.Decisions.Answers}
-use Rattle.cache_policy.specs.{Decisions.{AnswersUnstored, DecidesBy, MayComeFromStore}, Requests.AllowsMethod}
-use Rattle.cache_policy.specs.{Requests.{IsSafe, Request}, Storing.{IsStorable, MayStore}}
-use Rattle.cache_policy.specs.declared.decision.Decision.{Decision, TheVariants.{Serve, ServeAndRevalidate, ServeStale}}
-use Rattle.cache_policy.specs.declared.decision.Decision.TheVariants.{Revalidate, RevalidateOrServe, Unavailable, Fetch}
-use Rattle.cache_policy.specs.declared.decision.Freshness.{Freshness}
-use Rattle.{decide_preconditions.specs.Preconditions.IsGetOrHead, cache_fields.specs.Directives.{IsMalformed, Says}}
-use Rattle.cache_fields.specs.{Directives.{directed, strictest}, Freshness.{HasHeuristic, HasLifetime, StatesAge}}
-use Rattle.cache_fields.specs.declared.{directives.Directives.Directives, kind.Kind.{Kind, TheVariants.Shared}}
-use Rattle.cache_fields.{specs.declared.kind.Kind.TheVariants.Private, proofs.DirectiveLemmas.malformed_is_strictest}
-use Rattle.cache_fields.proofs.DirectiveLemmas.{said_no_cache, said_no_store, said_private, unsaid_must_understand}
-use Rattle.cache_fields.proofs.FreshnessLemmas.{one_lifetime}
+use Rattle.cache_fields.proofs.DirectiveLemmas.{malformed_is_strictest, said_no_cache, said_no_store, said_private}
+use Rattle.cache_fields.proofs.{DirectiveLemmas.unsaid_must_understand, FreshnessLemmas.one_lifetime}
+use Rattle.cache_fields.specs.{Directives.{IsMalformed, Says, directed, strictest}, declared.kind.Kind.Kind}
+use Rattle.cache_fields.specs.Freshness.{HasHeuristic, HasLifetime, StatesAge}
+use Rattle.cache_fields.specs.declared.{directives.Directives.Directives, kind.Kind.TheVariants.{Private, Shared}}
+use Rattle.cache_policy.specs.Decisions.{Answers, AnswersUnstored, DecidesBy, MayComeFromStore}
+use Rattle.cache_policy.specs.{Requests.{AllowsMethod, IsSafe, Request}, declared.decision.Freshness.Freshness}
+use Rattle.cache_policy.specs.{Storing.{IsStorable, MayStore}, declared.decision.Decision.Decision}
+use Rattle.cache_policy.specs.declared.decision.Decision.TheVariants.{Fetch, Revalidate, RevalidateOrServe, Serve}
+use Rattle.cache_policy.specs.declared.decision.Decision.TheVariants.{ServeAndRevalidate, ServeStale, Unavailable}
+use Rattle.{decide_preconditions.specs.Preconditions.IsGetOrHead, headers.specs.LineMap.LineMap, std.specs.Prelude.◌⊎◌}
+use Rattle.std.proofs.Common.{List, None, Option, Some, codes, false, inl, inr, refl, subst, sym, true, ℕ, ◌≡◌}
 
 -- ---- storing
 

@@ -1,15 +1,14 @@
 -- The plans that a stored response can have for a request that a cache evaluates.
-use Rattle.std.proofs.Common.{◌≡◌, ℕ, ◌<◌, Bool, true, false, List, [], ◌∷◌, length, Option, Some, None, inl, inr, refl}
-use Rattle.std.{proofs.{Common.{sym, arith}, lemmas.Bool.lt-ltb}, specs.Prelude.codes}
-use Rattle.{http_header.specs.FieldValue.{FieldValue, plain_value}, headers.specs.{Lines.Line, Shapes.only_tag}}
-use Rattle.{headers.specs.Typed.HasLine, cache_policy.specs.Requests.Request}
-use Rattle.decide_preconditions.{proofs.HeadLemmas.never_unconditional, specs.Conditions.UnmodifiedSinceIsFalse}
-use Rattle.decide_preconditions.specs.{Limits.are_too_many, Plans.IsPlanned, declared.{part.Part.Part, plan.Plan.Plan}}
-use Rattle.decide_preconditions.specs.declared.resource.{Validators.Validators, TargetState.TheVariants.Missing}
-use Rattle.decide_preconditions.specs.{declared.resource.TargetState.TheVariants.Current, Preconditions.Answers}
-use Rattle.decide_preconditions.specs.Preconditions.{AreIgnored, IsGetOrHead}
+use Rattle.{cache_policy.specs.Requests.Request, headers.specs.Shapes.only_tag, std.proofs.lemmas.Bool.lt-ltb}
 use Rattle.cache_rules.specs.Conditions.{AreValidators, IsForCache, IsStoredAnswer, answer_of, divisible, one_part}
-use Rattle.cache_rules.specs.declared.stored.StoredResponse.{StoredResponse}
+use Rattle.{cache_rules.specs.declared.stored.StoredResponse.StoredResponse, decide_preconditions.specs.Plans.IsPlanned}
+use Rattle.decide_preconditions.{proofs.HeadLemmas.never_unconditional, specs.Conditions.UnmodifiedSinceIsFalse}
+use Rattle.{decide_preconditions.specs.Limits.are_too_many, http_header.specs.FieldValue.{FieldValue, plain_value}}
+use Rattle.decide_preconditions.specs.{Preconditions.{Answers, AreIgnored, IsGetOrHead}, declared.plan.Plan.Plan}
+use Rattle.decide_preconditions.specs.declared.{part.Part.Part, resource.TargetState.TheVariants.{Current, Missing}}
+use Rattle.{decide_preconditions.specs.declared.resource.Validators.Validators, std.proofs.Common.{◌<◌, ◌∷◌, ◌≡◌}}
+use Rattle.{headers.specs.{Lines.Line, Typed.HasLine}, std.specs.Prelude.codes}
+use Rattle.std.proofs.Common.{Bool, List, None, Option, Some, [], arith, false, inl, inr, length, refl, sym, true, ℕ}
 use Rattle.decide_preconditions.specs.declared.plan.Plan.TheVariants as plan
 use Rattle.decide_preconditions.specs.declared.precondition.Precondition.TheVariants as precondition
 

@@ -1,10 +1,9 @@
 -- Maps in which fields are set, name by name.
-use Rattle.std.proofs.Common.{◌≡◌, ◌∙◌, ℕ, Bool, true, false, List, [], ◌∷◌, ◌++◌, inl, inr, refl, sym, ap, subst}
-use Rattle.std.{proofs.lemmas.{Bool.cases_Bool, Slice.Eq.bytes_eq-Decides}, specs.Prelude.{◌&&◌, bytes_eq}}
-use Rattle.{std.specs.{Prelude.if◌then◌else◌, List.list_any}, http_header.specs.FieldValue.FieldValue}
-use Rattle.{http_header.specs.HeaderMap.{Entries, keys}, headers.specs.LineMap.{Field, LineMap, lines_at, set, set_all}}
-use Rattle.{headers.specs.Lines.Line, rfc_fields.specs.Scan.Member, gateway_messages.specs.HopByHop.is_hop_by_hop}
-use Rattle.cache_rules.specs.Storing.{removals}
+use Rattle.{cache_rules.specs.Storing.removals, gateway_messages.specs.HopByHop.is_hop_by_hop}
+use Rattle.{headers.specs.{LineMap.{Field, LineMap, lines_at, set, set_all}, Lines.Line}, rfc_fields.specs.Scan.Member}
+use Rattle.{http_header.specs.{FieldValue.FieldValue, HeaderMap.{Entries, keys}}, std.proofs.lemmas.Bool.cases_Bool}
+use Rattle.std.proofs.Common.{Bool, List, [], ap, false, inl, inr, refl, subst, sym, true, ℕ, ◌++◌, ◌∙◌, ◌∷◌, ◌≡◌}
+use Rattle.std.{proofs.lemmas.Slice.Eq.bytes_eq-Decides, specs.{List.list_any, Prelude.{bytes_eq, if◌then◌else◌, ◌&&◌}}}
 
 -- setting one list of fields after another
 pub set_all-append : (m : LineMap) (fields more : List Field)

@@ -1,17 +1,16 @@
 -- What is stored of the fields of a response.
-use Rattle.std.proofs.Common.{◌≡◌, ◌≢◌, ◌∙◌, ℕ, ◌<◌, Bool, true, false, List, [], ◌∷◌, ◌++◌, length, get_or, inl, inr}
-use Rattle.std.proofs.{Common.{refl, sym, ap, arith}, lemmas.Bool.{both_ways, cases_Bool, false_from_ne_true, or_parts}}
-use Rattle.std.proofs.lemmas.{List.{append-nil, map-append, Folds.list_any_at}, Slice.Eq.bytes_eq-Decides}
-use Rattle.std.specs.{List.list_any, Option.{option_map_or, option_or}, Prelude.{◌||◌, Option, bytes_eq, codes}}
-use Rattle.{std.specs.Prelude.if◌then◌else◌, http_header.specs.{FieldValue.FieldValue, HeaderMap.{Entries, keys}}}
-use Rattle.headers.specs.{LineMap.{Field, LineMap, field_of, fields_of, lines_at, set_all}, declared.Encoded.Encoded}
-use Rattle.{headers.specs.Lines.Line, rfc_fields.specs.Members.field_members, cache_policy.specs.Dating.date_lines}
-use Rattle.cache_policy.specs.{Directives.directed_by_members, Freshness.by_itself, declared.Directives.Directives}
-use Rattle.cache_policy.specs.{declared.Governing.Governing, Targets.{governing, told, told_by}}
-use Rattle.gateway_messages.specs.HopByHop.{connection_options, is_hop_by_hop, is_named}
+use Rattle.cache_policy.specs.{Dating.date_lines, declared.{Directives.Directives, Governing.Governing}}
+use Rattle.cache_policy.specs.{Directives.directed_by_members, Freshness.by_itself, Targets.{governing, told, told_by}}
+use Rattle.{cache_rules.proofs.FieldLemmas.{set_all-append, without_all}, http_header.specs.HeaderMap.{Entries, keys}}
 use Rattle.cache_rules.specs.Storing.{HasFairOptions, IsAsStored, IsHopByHop, LacksDate, is_absent, is_lost, lacks_date}
-use Rattle.cache_rules.specs.Storing.{or_date, removals, reuse_names, storing_fields}
-use Rattle.cache_rules.proofs.FieldLemmas.{set_all-append, without_all}
+use Rattle.{cache_rules.specs.Storing.{or_date, removals, reuse_names, storing_fields}, std.specs.List.list_any}
+use Rattle.gateway_messages.specs.HopByHop.{connection_options, is_hop_by_hop, is_named}
+use Rattle.headers.specs.{LineMap.{Field, LineMap, field_of, fields_of, lines_at, set_all}, declared.Encoded.Encoded}
+use Rattle.{headers.specs.Lines.Line, http_header.specs.FieldValue.FieldValue, rfc_fields.specs.Members.field_members}
+use Rattle.std.proofs.Common.{Bool, List, [], ap, arith, false, get_or, inl, inr, length, refl, sym, true, ℕ, ◌++◌, ◌<◌}
+use Rattle.std.proofs.{Common.{◌∙◌, ◌∷◌, ◌≡◌, ◌≢◌}, lemmas.Bool.{both_ways, cases_Bool, false_from_ne_true, or_parts}}
+use Rattle.std.proofs.lemmas.{List.{Folds.list_any_at, append-nil, map-append}, Slice.Eq.bytes_eq-Decides}
+use Rattle.std.specs.{Option.{option_map_or, option_or}, Prelude.{Option, bytes_eq, codes, if◌then◌else◌, ◌||◌}}
 
 -- names that aren't equal are told apart
 apart : (a b : List ℕ) → b ≢ a → bytes_eq a b ≡ false

@@ -1,24 +1,23 @@
 -- What browsers make of the fields of a policy.
-use Rattle.std.proofs.Common.{◌≡◌, ◌≢◌, ◌↔◌, ◌⊎◌, ℕ, zero, suc, Bool, true, false, List, [], ◌∷◌, ◌++◌, Option, Some}
-use Rattle.std.proofs.{Common.{None, refl, ap, sym, ◌∙◌, subst, inl, inr, arith}, lemmas.Bool.cases_Bool}
-use Rattle.std.proofs.lemmas.{Bool.Decides.nat_tests, Cmp.nat_list_eq_equiv, Slice.Eq.bytes_eq-Decides}
-use Rattle.std.{proofs.lemmas.Map.Views.{Contains-from_any, list_any-from_Contains}, specs.Prelude.◌&&◌}
-use Rattle.std.specs.Prelude.{if◌then◌else◌, bytes_eq, codes, is_some, Contains, IfSome, IsTrue, IsSomeAnd}
-use Rattle.{std.specs.{List.list_any, Cmp.IsEquivalence}, http_header.specs.Token.lowercase}
-use Rattle.headers.specs.{LineMap.{Field, LineMap, fields_of, set_all}, Lines.Line, ListItem.{method_of, name_of}}
-use Rattle.{headers.specs.{Typed.HasLine, declared.Origin.Origin}, decide_cors.specs.Allowed.{Admits, IsAny, IsAnyName}}
-use Rattle.decide_cors.specs.{Allowed.{Lists, ListsName}, Answer.{IsAnswer, allows}, Elements.{elements, is_filled}}
-use Rattle.decide_cors.specs.{Kinds.{IsKindOf, is_preflight}, Policy.Policy, declared.kind.CorsKind.CorsKind}
-use Rattle.decide_cors.specs.declared.kind.CorsKind.TheVariants.{Preflight, Plain, NoOrigin}
-use Rattle.decide_cors.specs.declared.{policy.CorsAnswer.CorsAnswer, rules.Allowed.{Allowed, TheVariants.{Any, Listed}}}
-use Rattle.decide_cors.specs.{declared.rules.{AllowedNames.AllowedNames, CorsRules.CorsRules}, Browser.Request}
-use Rattle.decide_cors.specs.Browser.{IsPreflightFor, IsSentFor, Checks, CorsCheck, Excludes, GrantsMethod, GrantsName}
-use Rattle.decide_cors.specs.Browser.{IsExposed, IsForbidden, IsOkStatus, IsSafeMethod, PreflightPasses, ShowsName}
-use Rattle.decide_cors.specs.{Browser.{combined, extracted, methods_in, star}, Rules.{AdmitsName, AllowsCredentials}}
-use Rattle.decide_cors.specs.Rules.{AllowsMethod, AllowsName, AllowsOrigin, AllowsRequest, Exposes, IsLawful}
-use Rattle.decide_cors.specs.{Rules.{IsListLine, IsNamesLine, IsPolicyOf, ShowsListed, texts}, Fields.fields_sent}
-use Rattle.decide_cors.specs.Fields.{filled_line, grant, grant_fields, granted, lines_if}
 use Rattle.decide_cors.proofs.ElementLemmas.{all_extracted, methods_extracted, names_extracted, star_extracted}
+use Rattle.decide_cors.specs.{Allowed.{Admits, IsAny, IsAnyName, Lists, ListsName}, Elements.{elements, is_filled}}
+use Rattle.decide_cors.specs.{Answer.{IsAnswer, allows}, Browser.{ShowsName, combined, extracted, methods_in, star}}
+use Rattle.decide_cors.specs.Browser.{Checks, CorsCheck, Excludes, GrantsMethod, GrantsName, IsExposed, IsForbidden}
+use Rattle.decide_cors.specs.Browser.{IsOkStatus, IsPreflightFor, IsSafeMethod, IsSentFor, PreflightPasses, Request}
+use Rattle.decide_cors.specs.{Fields.{fields_sent, filled_line, grant, grant_fields, granted, lines_if}, Policy.Policy}
+use Rattle.{decide_cors.specs.Kinds.{IsKindOf, is_preflight}, std.proofs.lemmas.Cmp.nat_list_eq_equiv}
+use Rattle.decide_cors.specs.Rules.{AdmitsName, AllowsCredentials, AllowsMethod, AllowsName, AllowsOrigin, texts}
+use Rattle.decide_cors.specs.Rules.{AllowsRequest, Exposes, IsLawful, IsListLine, IsNamesLine, IsPolicyOf, ShowsListed}
+use Rattle.decide_cors.specs.declared.kind.CorsKind.{CorsKind, TheVariants.{NoOrigin, Plain, Preflight}}
+use Rattle.decide_cors.specs.declared.{policy.CorsAnswer.CorsAnswer, rules.CorsRules.CorsRules}
+use Rattle.decide_cors.specs.declared.rules.{Allowed.{Allowed, TheVariants.{Any, Listed}}, AllowedNames.AllowedNames}
+use Rattle.headers.specs.{LineMap.{Field, LineMap, fields_of, set_all}, ListItem.{method_of, name_of}, Typed.HasLine}
+use Rattle.{headers.specs.Lines.Line, std.specs.{Cmp.IsEquivalence, List.list_any}}
+use Rattle.{headers.specs.declared.Origin.Origin, http_header.specs.Token.lowercase, std.proofs.lemmas.Bool.cases_Bool}
+use Rattle.std.proofs.Common.{Bool, List, None, Option, Some, [], ap, arith, false, inl, inr, refl, subst, suc, sym}
+use Rattle.std.proofs.{Common.{true, zero, ℕ, ◌++◌, ◌↔◌, ◌∙◌, ◌∷◌, ◌≡◌, ◌≢◌, ◌⊎◌}, lemmas.Bool.Decides.nat_tests}
+use Rattle.std.proofs.lemmas.{Map.Views.{Contains-from_any, list_any-from_Contains}, Slice.Eq.bytes_eq-Decides}
+use Rattle.std.specs.Prelude.{Contains, IfSome, IsSomeAnd, IsTrue, bytes_eq, codes, if◌then◌else◌, is_some, ◌&&◌}
 use Rattle.decide_cors.specs.declared.rules.AllowedNames.TheVariants as Names
 
 bytes_equiv : IsEquivalence bytes_eq

@@ -1,14 +1,13 @@
 -- A list of methods or names encodes to a value whose elements are exactly these.
-use Rattle.std.proofs.Common.{◌≡◌, ℕ, ◌-◌, true, false, List, [], ◌∷◌, length, map, Some, IsTrue, refl, ap, subst, ◌∙◌}
-use Rattle.std.proofs.{Common.{inl, inr, arith, leb}, Math.Seq.take-length, lemmas.List.Elements.All-weaker}
-use Rattle.std.proofs.lemmas.{List.Splits.{slice_split_at, slice_split_none}, Bool.{and_from, and_parts, cases_Bool}}
-use Rattle.std.{proofs.lemmas.Bool.{leb-true, ne_eqb}, specs.{Prelude.{codes, filter, nat_lt, ◌==◌}, List.list_all}}
-use Rattle.{std.specs.List.slice_split, http_header.specs.Token.{IsToken, is_token_byte, lowercase}}
-use Rattle.{http_header.proofs.TokenLemmas.IsHeaderName-lowercase, headers.specs.{Lines.Line, Merge.merge}}
-use Rattle.headers.specs.{Places.comma, Text.trim, ListItem.{IsListOf, is_token, method_of, name_of, values}}
-use Rattle.headers.proofs.{ReadingLemmas.{is_token-from, is_token-of}, RoundTripLemmas.{token_back, token_front}}
-use Rattle.{headers.proofs.RoundTripLemmas.token_trim, decide_cors.specs.{Browser.{extracted, star}, Elements.elements}}
-use Rattle.decide_cors.specs.Elements.{is_filled}
+use Rattle.{decide_cors.specs.Browser.{extracted, star}, std.specs.Prelude.{codes, filter, nat_lt, ◌==◌}}
+use Rattle.{decide_cors.specs.Elements.{elements, is_filled}, headers.proofs.ReadingLemmas.{is_token-from, is_token-of}}
+use Rattle.headers.{proofs.RoundTripLemmas.{token_back, token_front, token_trim}, specs.{Lines.Line, Text.trim}}
+use Rattle.headers.specs.{ListItem.{IsListOf, is_token, method_of, name_of, values}, Merge.merge, Places.comma}
+use Rattle.http_header.{proofs.TokenLemmas.IsHeaderName-lowercase, specs.Token.{IsToken, is_token_byte, lowercase}}
+use Rattle.std.proofs.Common.{IsTrue, List, Some, [], ap, arith, false, inl, inr, leb, length, map, refl, subst, true}
+use Rattle.std.proofs.{Common.{ℕ, ◌-◌, ◌∙◌, ◌∷◌, ◌≡◌}, lemmas.Bool.{and_from, and_parts, cases_Bool, leb-true, ne_eqb}}
+use Rattle.std.{proofs.Math.Seq.take-length, specs.List.{list_all, slice_split}}
+use Rattle.std.proofs.lemmas.List.{Elements.All-weaker, Splits.{slice_split_at, slice_split_none}}
 
 -- no byte of a token is a comma
 no_comma : (b : ℕ) → IsTrue (is_token_byte b) → (b == comma) ≡ false

@@ -1,18 +1,17 @@
 -- What follows from the rules of the client, and which of them each return of `check` has seen.
-use Rattle.std.proofs.Common.{◌≡◌, ℕ, zero, suc, ◌+◌, ◌<◌, ◌≤◌, refl, ap, arith, inl, inr, Option, Some, None, codes}
-use Rattle.{std.proofs.Common.◌∙◌, headers.specs.{LineMap.LineMap, Lines.{Line, only_line}}}
-use Rattle.decide_handshake.specs.Client.{AcceptsKey, Checks, IsOpened, IsSwitched, NamesWebsocket, Rule, flaw_number}
-use Rattle.decide_handshake.specs.{Extensions.{HasExtensions, UsesAskedExtensions}, Fields.ListsUpgrade}
-use Rattle.decide_handshake.specs.{Protocols.UsesAskedProtocol, Rules.{IsFirstBroken, KeepsBelow}}
-use Rattle.decide_handshake.specs.declared.client.{Checked.{Checked, TheVariants.{Open, Fail}}, Flaw.Flaw}
-use Rattle.decide_handshake.specs.declared.client.Flaw.TheVariants.{NotSwitched, NoUpgrade, NoConnection, WrongAccept}
-use Rattle.decide_handshake.specs.declared.client.Flaw.TheVariants.{MalformedExtensions, UnaskedExtension}
-use Rattle.decide_handshake.{specs.declared.client.Flaw.TheVariants.UnaskedProtocol, proofs.DecisionLemmas.Decided}
-use Rattle.decide_handshake.proofs.DecisionLemmas.{alike, never, same_bytes, same_number, some_with}
+use Rattle.decide_handshake.proofs.DecisionLemmas.{Decided, alike, never, same_bytes, same_number, some_with}
 use Rattle.decide_handshake.proofs.FactLemmas.{asked_decided, extensions_decided, lists_upgrade_decided}
-use Rattle.decide_handshake.proofs.{FactLemmas.protocol_decided, RuleLemmas.{KeptTo, first_broken, kept_below}}
-use Rattle.{decide_handshake.proofs.RuleLemmas.{one_first, some_first}, http_header.specs.Token.lowercase}
-use Rattle.websocket.specs.Handshake.{accept_key_of}
+use Rattle.decide_handshake.{proofs.FactLemmas.protocol_decided, specs.declared.client.Flaw.TheVariants.WrongAccept}
+use Rattle.decide_handshake.proofs.RuleLemmas.{KeptTo, first_broken, kept_below, one_first, some_first}
+use Rattle.decide_handshake.specs.Client.{AcceptsKey, Checks, IsOpened, IsSwitched, NamesWebsocket, Rule, flaw_number}
+use Rattle.decide_handshake.specs.{Extensions.{HasExtensions, UsesAskedExtensions}, Rules.{IsFirstBroken, KeepsBelow}}
+use Rattle.decide_handshake.specs.{Fields.ListsUpgrade, Protocols.UsesAskedProtocol, declared.client.Flaw.Flaw}
+use Rattle.{decide_handshake.specs.declared.client.Checked.{Checked, TheVariants.{Fail, Open}}, std.proofs.Common.◌≤◌}
+use Rattle.decide_handshake.specs.declared.client.Flaw.TheVariants.{MalformedExtensions, NoConnection, NoUpgrade}
+use Rattle.decide_handshake.specs.declared.client.Flaw.TheVariants.{NotSwitched, UnaskedExtension, UnaskedProtocol}
+use Rattle.{headers.specs.{LineMap.LineMap, Lines.{Line, only_line}}, websocket.specs.Handshake.accept_key_of}
+use Rattle.http_header.specs.Token.{lowercase}
+use Rattle.std.proofs.Common.{None, Option, Some, ap, arith, codes, inl, inr, refl, suc, zero, ℕ, ◌+◌, ◌<◌, ◌∙◌, ◌≡◌}
 
 -- the flaw of a number
 abbrev flaw_at : ℕ → Flaw

@@ -1,24 +1,22 @@
 -- What follows from the rules of the server, and which of them each return of `judge` has seen.
-use Rattle.std.proofs.Common.{◌≡◌, ◌⊎◌, ℕ, zero, suc, ◌+◌, ◌<◌, ◌≤◌, List, Option, refl, sym, ◌∙◌, ap, arith, inl, inr}
-use Rattle.std.{proofs.Common.{IsTrue, Some, None, subst, codes}, specs.Prelude.is_some}
-use Rattle.http.specs.declared.version.{Http.{Http, TheVariants.{Http11, H2, H3}}, Version.Version}
-use Rattle.{http_header.specs.FieldValue.{FieldValue, plain_value}, websocket.specs.Handshake.accept_key_of}
-use Rattle.{websocket.specs.Handshake.IsValidKey, headers.specs.{LineMap.LineMap, Lines.{Line, only_line}}}
-use Rattle.decide_handshake.specs.{Extensions.HasExtensions, Fields.{ListsUpgrade, ListsWebsocket}}
+use Rattle.decide_handshake.proofs.DecisionLemmas.{Decided, alike, always, by_test, either, is_empty, is_some_of, never}
+use Rattle.decide_handshake.proofs.{DecisionLemmas.{same_bytes, some_with, valid_key}, FactLemmas.offers_decided}
+use Rattle.decide_handshake.proofs.FactLemmas.{extensions_decided, lists_upgrade_decided, lists_websocket_decided}
+use Rattle.{decide_handshake.proofs.RuleLemmas.{KeptTo, first_broken, one_first, some_first}, std.specs.Prelude.is_some}
+use Rattle.decide_handshake.specs.{Extensions.HasExtensions, declared.server.Fault.TheVariants.{NotHttp11, OldHttp}}
+use Rattle.{decide_handshake.specs.Fields.{ListsUpgrade, ListsWebsocket}, headers.specs.Lines.{Line, only_line}}
 use Rattle.decide_handshake.specs.{Origins.{AllowsOrigin, OriginList, lists_origin}, Protocols.{OffersProtocols, taken}}
-use Rattle.decide_handshake.specs.{Rules.KeepsBelow, declared.server.HandshakeAnswer.HandshakeAnswer}
-use Rattle.decide_handshake.specs.declared.server.HandshakeAnswer.TheVariants.{Switch, BadRequest, UpgradeRequired}
-use Rattle.decide_handshake.specs.declared.server.{HandshakeAnswer.TheVariants.Forbidden, Refusal.Refusal}
-use Rattle.decide_handshake.specs.declared.server.Refusal.TheVariants.{Faulty, OtherVersion, OtherOrigin}
-use Rattle.decide_handshake.specs.declared.server.Fault.TheVariants.{NotGet, OldHttp, NotHttp11, NoHost, NoUpgrade}
-use Rattle.decide_handshake.specs.declared.server.Fault.TheVariants.{NoConnection, NoKey, MalformedProtocols}
-use Rattle.decide_handshake.specs.{declared.server.Fault.TheVariants.MalformedExtensions, Server.{Answers, HasHost}}
-use Rattle.decide_handshake.specs.Server.{HasKey, HasVersion13, IsAccepted, IsFirst, IsGet, IsHttp11, IsRecent}
-use Rattle.decide_handshake.{specs.Server.{IsSwitch, Rule, refusal_number}, proofs.DecisionLemmas.{Decided, alike}}
-use Rattle.decide_handshake.proofs.DecisionLemmas.{always, by_test, either, is_empty, is_some_of, never, same_bytes}
-use Rattle.decide_handshake.proofs.{DecisionLemmas.{some_with, valid_key}, FactLemmas.extensions_decided}
-use Rattle.decide_handshake.proofs.FactLemmas.{lists_upgrade_decided, lists_websocket_decided, offers_decided}
-use Rattle.decide_handshake.proofs.RuleLemmas.{KeptTo, first_broken, one_first, some_first}
+use Rattle.decide_handshake.specs.{Rules.KeepsBelow, Server.{IsRecent, IsSwitch, Rule, refusal_number}}
+use Rattle.decide_handshake.specs.Server.{Answers, HasHost, HasKey, HasVersion13, IsAccepted, IsFirst, IsGet, IsHttp11}
+use Rattle.decide_handshake.specs.declared.server.Fault.TheVariants.{MalformedExtensions, MalformedProtocols}
+use Rattle.decide_handshake.specs.declared.server.Fault.TheVariants.{NoConnection, NoHost, NoKey, NoUpgrade, NotGet}
+use Rattle.decide_handshake.specs.declared.server.HandshakeAnswer.{HandshakeAnswer, TheVariants.UpgradeRequired}
+use Rattle.decide_handshake.specs.declared.server.HandshakeAnswer.TheVariants.{BadRequest, Forbidden, Switch}
+use Rattle.decide_handshake.specs.declared.server.Refusal.{Refusal, TheVariants.{Faulty, OtherOrigin, OtherVersion}}
+use Rattle.{headers.specs.LineMap.LineMap, websocket.specs.Handshake.{IsValidKey, accept_key_of}}
+use Rattle.http.specs.declared.version.{Http.{Http, TheVariants.{H2, H3, Http11}}, Version.Version}
+use Rattle.{http_header.specs.FieldValue.{FieldValue, plain_value}, std.proofs.Common.{ℕ, ◌+◌, ◌<◌, ◌∙◌, ◌≡◌, ◌≤◌, ◌⊎◌}}
+use Rattle.std.proofs.Common.{IsTrue, List, None, Option, Some, ap, arith, codes, inl, inr, refl, subst, suc, sym, zero}
 
 -- the refusal of a number
 abbrev refusal_at : ℕ → Refusal

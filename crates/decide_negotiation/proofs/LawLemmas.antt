@@ -1,29 +1,28 @@
 -- What the definitions say, in the words of the RFCs.
-use Rattle.std.proofs.Common.{◌≡◌, ◌∙◌, ◌⊎◌, ℕ, zero, suc, ◌<◌, ◌≤◌, Bool, true, false, List, [], ◌∷◌, ◌++◌, get_or}
-use Rattle.std.proofs.{Common.{Option, Some, None, inl, inr, refl, sym, ap, arith, codes, fold}, Math.Bool.or-true}
-use Rattle.std.proofs.lemmas.{Slice.Eq.bytes_eq-Decides, Bool.{and_from, and_parts, cases_Bool, eqb-true, leb-false}}
-use Rattle.std.proofs.lemmas.{Bool.{leb-true, or_cases}, List.Folds.{Any-from_list_any, list_any-from_Any}}
-use Rattle.std.proofs.lemmas.List.{Sums.{AllPass-from_list_all, list_all-from_AllPass}, Elements.All-contains}
-use Rattle.std.{proofs.lemmas.List.Elements.Contains-get_or, specs.Prelude.{Any, Contains, filter_map, ◌&&◌, ◌==◌}}
-use Rattle.std.specs.{Prelude.nat_le, Bool.MatchBool, List.{cons_option, list_any}}
-use Rattle.{http_header.specs.{FieldValue.FieldValue, Token.lowercase}, headers_syntax.specs.AsciiCase.SameButForCase}
-use Rattle.{headers_syntax.specs.Lines.Line, rfc_fields.specs.{Members.{field_members, members}, Scan.Member}}
-use Rattle.{rfc_fields.specs.Scan.Member.Malformed, decide_negotiation.specs.Choice.{Chooses, IsFirstOfGreatest, Picks}}
-use Rattle.decide_negotiation.specs.{Choice.{first_place, offer_rank}, Codings.{coding_quality, coding_says}}
-use Rattle.decide_negotiation.specs.Codings.{encoding_quality, is_same_coding, member_quality, quality_of_all}
-use Rattle.decide_negotiation.specs.{Codings.{quality_or, unlisted}, Elements.ElementParts, Preferences.strongest}
-use Rattle.decide_negotiation.specs.declared.{acceptability.Quality.Quality, preference.Preference.Preference}
-use Rattle.decide_negotiation.specs.{Languages.{covers, hyphen, is_front, language_element_of}, Laws.HasTwoNames}
+use Rattle.{decide_negotiation.proofs.ChoiceLemmas.{at_place, picks_one, picks_some}, http_header.specs.Token.lowercase}
+use Rattle.decide_negotiation.proofs.LookupLemmas.{no_element, range_finds_nothing, star_finds_nothing}
+use Rattle.{decide_negotiation.proofs.PreferenceLemmas.{one_best, strongest_is_best}, headers_syntax.specs.Lines.Line}
+use Rattle.decide_negotiation.specs.Choice.{Chooses, IsFirstOfGreatest, Picks, first_place, offer_rank}
+use Rattle.decide_negotiation.specs.Codings.{coding_quality, coding_says, encoding_quality, is_same_coding}
+use Rattle.decide_negotiation.specs.{Codings.{member_quality, quality_of_all, quality_or, unlisted}, Laws.TakesTheFirst}
+use Rattle.decide_negotiation.specs.{Elements.ElementParts, declared.acceptability.Quality.Quality}
+use Rattle.decide_negotiation.specs.{Languages.{covers, hyphen, is_front, language_element_of}, Preferences.strongest}
 use Rattle.decide_negotiation.specs.Laws.{EachCodingIsAccepted, ExcludesIdentity, HasOneChoice, HasOneLookup}
-use Rattle.decide_negotiation.specs.Laws.{IdentityIsExcludedByName, IsSameParameter, IsStarOrSame, ListedComesFirst}
-use Rattle.decide_negotiation.specs.Laws.{Matches, MostSpecificDecides, RangesCover, RangesMatch, TakesTheFirst}
+use Rattle.decide_negotiation.specs.Laws.{HasTwoNames, IdentityIsExcludedByName, IsSameParameter, IsStarOrSame}
+use Rattle.decide_negotiation.specs.Laws.{ListedComesFirst, Matches, MostSpecificDecides, RangesCover, RangesMatch}
 use Rattle.decide_negotiation.specs.Lookup.{Finds, IsDefault, IsLookedUp, LooksUp, LooksUpIn, accepts_any}
-use Rattle.decide_negotiation.specs.{Lookup.{offer_nearness, range_weight}, MediaRanges.{are_had, is_star_or_same}}
-use Rattle.decide_negotiation.specs.{MediaRanges.matches, Parameters.{ParameterParts, is_same_parameter}}
-use Rattle.decide_negotiation.{specs.Qualities.{least, quality_in, rank, weighed}, proofs.ChoiceLemmas.at_place}
-use Rattle.decide_negotiation.proofs.{ChoiceLemmas.{picks_one, picks_some}, LookupLemmas.no_element}
-use Rattle.decide_negotiation.proofs.{LookupLemmas.{range_finds_nothing, star_finds_nothing}, PreferenceLemmas.one_best}
-use Rattle.decide_negotiation.proofs.PreferenceLemmas.{strongest_is_best}
+use Rattle.decide_negotiation.specs.{Lookup.{offer_nearness, range_weight}, declared.preference.Preference.Preference}
+use Rattle.{decide_negotiation.specs.MediaRanges.{are_had, is_star_or_same, matches}, rfc_fields.specs.Scan.Member}
+use Rattle.{decide_negotiation.specs.Parameters.{ParameterParts, is_same_parameter}, std.specs.Bool.MatchBool}
+use Rattle.decide_negotiation.specs.Qualities.{least, quality_in, rank, weighed}
+use Rattle.{headers_syntax.specs.AsciiCase.SameButForCase, rfc_fields.specs.Members.{field_members, members}}
+use Rattle.{http_header.specs.FieldValue.FieldValue, std.specs.Prelude.{Any, Contains, filter_map, nat_le, ◌&&◌, ◌==◌}}
+use Rattle.{rfc_fields.specs.Scan.Member.Malformed, std.proofs.lemmas.List.Folds.{Any-from_list_any, list_any-from_Any}}
+use Rattle.std.proofs.Common.{Bool, List, None, Option, Some, [], ap, arith, codes, false, fold, get_or, inl, inr, refl}
+use Rattle.std.proofs.{Common.{suc, sym, true, zero, ℕ, ◌++◌, ◌<◌, ◌∙◌, ◌∷◌, ◌≡◌, ◌≤◌, ◌⊎◌}, Math.Bool.or-true}
+use Rattle.std.proofs.lemmas.Bool.{and_from, and_parts, cases_Bool, eqb-true, leb-false, leb-true, or_cases}
+use Rattle.std.{proofs.lemmas.List.Elements.{All-contains, Contains-get_or}, specs.List.{cons_option, list_any}}
+use Rattle.std.proofs.lemmas.{List.Sums.{AllPass-from_list_all, list_all-from_AllPass}, Slice.Eq.bytes_eq-Decides}
 
 pub most_specific : MostSpecificDecides
 most_specific = record { decides = strongest_is_best; one = one_best }

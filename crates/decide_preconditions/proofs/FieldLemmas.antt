@@ -1,14 +1,13 @@
 -- The fields of an answer in place of those that a server has set.
-use Rattle.std.proofs.Common.{◌≡◌, ◌≢◌, ℕ, Bool, true, false, All, List, [], ◌∷◌, refl, sym, ap, ◌∙◌, subst, arith}
-use Rattle.std.{proofs.lemmas.{Bool.cases_Bool, Slice.Eq.bytes_eq-Decides}, specs.Prelude.{Option, ◌++◌, bytes_eq}}
-use Rattle.{std.specs.Prelude.{codes, decimal, if◌then◌else◌}, http_header.specs.FieldValue.FieldValue}
+use Rattle.decide_preconditions.specs.{Conditions.modified_of, Contents.is_divisible, declared.content.Content.Content}
+use Rattle.decide_preconditions.specs.Fields.{IsModifiedBy, SendsFields, etag_of, etag_sent, fields_removed}
+use Rattle.decide_preconditions.specs.Fields.{fields_sent, is_whole, keeps_encoding, length_sent, lines_sent}
+use Rattle.decide_preconditions.specs.Fields.{modified_sent, not_after, range_sent, sent_names, type_sent, units_sent}
+use Rattle.decide_preconditions.specs.declared.{plan.Plan.Plan, resource.TargetState.TargetState}
 use Rattle.headers.specs.{ContentBytes.content_text, Date.fixdate, LineMap.{Field, LineMap, set, set_all}, Lines.Line}
-use Rattle.decide_preconditions.specs.{Conditions.modified_of, Contents.is_divisible, Fields.IsModifiedBy}
-use Rattle.decide_preconditions.specs.Fields.{SendsFields, etag_of, etag_sent, fields_removed, fields_sent, is_whole}
-use Rattle.decide_preconditions.specs.Fields.{keeps_encoding, length_sent, lines_sent, modified_sent, not_after}
-use Rattle.decide_preconditions.specs.Fields.{range_sent, sent_names, type_sent, units_sent}
-use Rattle.decide_preconditions.specs.declared.{content.Content.Content, plan.Plan.Plan}
-use Rattle.decide_preconditions.specs.declared.resource.TargetState.{TargetState}
+use Rattle.{http_header.specs.FieldValue.FieldValue, std.proofs.lemmas.{Bool.cases_Bool, Slice.Eq.bytes_eq-Decides}}
+use Rattle.std.proofs.Common.{All, Bool, List, [], ap, arith, false, refl, subst, sym, true, ℕ, ◌∙◌, ◌∷◌, ◌≡◌, ◌≢◌}
+use Rattle.std.specs.Prelude.{Option, bytes_eq, codes, decimal, if◌then◌else◌, ◌++◌}
 
 -- another name keeps its field lines
 pub set-other : (before : LineMap) (field : Field) (name : List ℕ) → field.0 ≢ name

@@ -1,12 +1,11 @@
 -- A HEAD is answered as a GET without Range.
-use Rattle.std.{proofs.Common.{arith, ◌↔◌, ℕ, List, Option, Some, None, inl, inr, refl}, specs.Prelude.codes}
-use Rattle.{headers.specs.LineMap.{LineMap, remove}, decide_preconditions.specs.Plans.{IsPlan, IsPlanned, Reads}}
-use Rattle.decide_preconditions.specs.Preconditions.{Answers, AreIgnored, IsGetOrHead, IsRead, IsUnconditional}
-use Rattle.decide_preconditions.specs.{Preconditions.StepsAnswer, Selection.Applies}
-use Rattle.decide_preconditions.specs.declared.{limits.RangeLimits.RangeLimits, plan.Plan.Plan}
+use Rattle.decide_preconditions.specs.{Plans.{IsPlan, IsPlanned, Reads}, Preconditions.{Answers, AreIgnored}}
+use Rattle.decide_preconditions.specs.Preconditions.{IsGetOrHead, IsRead, IsUnconditional, StepsAnswer}
+use Rattle.decide_preconditions.specs.{Selection.Applies, declared.{limits.RangeLimits.RangeLimits, plan.Plan.Plan}}
 use Rattle.decide_preconditions.specs.declared.precondition.Precondition.{Precondition}
-use Rattle.decide_preconditions.specs.declared.resource.TargetState.{TargetState}
-use Rattle.decide_preconditions.specs.declared.resource.{TargetState.TheVariants.Missing, Validators.Validators}
+use Rattle.decide_preconditions.specs.declared.resource.TargetState.{TargetState, TheVariants.Missing}
+use Rattle.{decide_preconditions.specs.declared.resource.Validators.Validators, headers.specs.LineMap.{LineMap, remove}}
+use Rattle.std.{proofs.Common.{List, None, Option, Some, arith, inl, inr, refl, ℕ, ◌↔◌}, specs.Prelude.codes}
 use Rattle.decide_preconditions.specs.declared.precondition.Precondition.TheVariants as precondition
 
 abbrev without_range : LineMap → LineMap

@@ -1,16 +1,15 @@
 -- A request has one plan at most, and each has one or none.
-use Rattle.std.proofs.Common.{◌≡◌, ℕ, ◌<◌, ◌^◌, List, [], ◌∷◌, Option, Some, None, length, refl, sym, ap, ◌∙◌, subst}
-use Rattle.{std.proofs.Common.{inl, inr, arith, lit<}, headers.specs.LineMap.LineMap}
-use Rattle.decide_preconditions.specs.{Fields.{IsSized, status_of}, Preconditions.Answers, Plans.{HasPlan, IsPlan}}
-use Rattle.decide_preconditions.specs.Plans.{IsPlanned, IsSamePlan, Reads, SendsParts, parts_sent}
-use Rattle.decide_preconditions.specs.declared.{limits.RangeLimits.RangeLimits, part.Part.Part, plan.Plan.Plan}
-use Rattle.decide_preconditions.specs.declared.plan.Plan.TheVariants.{NotModified, Failed, Full, Single, Multiple}
-use Rattle.decide_preconditions.specs.declared.plan.Plan.TheVariants.{Unsatisfiable}
-use Rattle.decide_preconditions.specs.declared.precondition.Precondition.{Precondition}
-use Rattle.decide_preconditions.specs.declared.resource.{TargetState.TargetState, Validators.Validators}
 use Rattle.decide_preconditions.proofs.PreconditionLemmas.{one_answer, read_or_not, some_answer}
 use Rattle.decide_preconditions.proofs.SelectionLemmas.{Covers, SomeParts, none_covered, same_covers, some_covered}
-use Rattle.decide_preconditions.proofs.SelectionLemmas.{some_selection}
+use Rattle.decide_preconditions.{proofs.SelectionLemmas.some_selection, specs.Fields.{IsSized, status_of}}
+use Rattle.decide_preconditions.specs.Plans.{HasPlan, IsPlan, IsPlanned, IsSamePlan, Reads, SendsParts, parts_sent}
+use Rattle.decide_preconditions.specs.{Preconditions.Answers, declared.{limits.RangeLimits.RangeLimits, part.Part.Part}}
+use Rattle.decide_preconditions.specs.declared.plan.Plan.{Plan, TheVariants.{Failed, Full, Multiple, NotModified}}
+use Rattle.decide_preconditions.specs.declared.plan.Plan.TheVariants.{Single, Unsatisfiable}
+use Rattle.decide_preconditions.specs.declared.precondition.Precondition.{Precondition}
+use Rattle.decide_preconditions.specs.declared.resource.{TargetState.TargetState, Validators.Validators}
+use Rattle.{headers.specs.LineMap.LineMap, std.proofs.Common.{List, None, Option, Some, [], ap, arith, inl, inr}}
+use Rattle.std.proofs.Common.{length, lit<, refl, subst, sym, ℕ, ◌<◌, ◌^◌, ◌∙◌, ◌∷◌, ◌≡◌}
 use Rattle.decide_preconditions.specs.declared.precondition.Precondition.TheVariants as precondition
 
 -- what the preconditions of a plan come to

@@ -1,18 +1,17 @@
 -- What follows from the rows of `Answers`.
-use Rattle.std.proofs.Common.{◌≡◌, ℕ, ◌+◌, ◌<◌, ◌≤◌, ◌⊎◌, List, [], ◌∷◌, Option, refl, arith, IfSome, IsTrue, Bool}
-use Rattle.std.proofs.{Common.{true, inl, inr}, lemmas.Bool.{cases_Bool, both_ways, cases_lt}}
-use Rattle.std.{proofs.lemmas.Slice.Eq.bytes_eq-Decides, specs.Prelude.{IsSomeAnd, bytes_eq, codes}}
-use Rattle.{rfc_values.specs.Calendar.unix_epoch, headers.specs.{LineMap.LineMap, Lines.Line, Typed.HasLine}}
-use Rattle.{headers.specs.EntityTagRange.star, decide_preconditions.specs.Conditions.ModifiedSinceLets}
-use Rattle.decide_preconditions.specs.{Conditions.{UnmodifiedSinceLets, dates}, Preconditions.{Answers, AreIgnored}}
-use Rattle.decide_preconditions.specs.Preconditions.{IsGetOrHead, IsRead, IsUnconditional, MayBeThere, ReadsMissing}
-use Rattle.decide_preconditions.specs.Preconditions.{IsStoredByDate, IsStoredByTag, StateIsLost, StateIsKept}
-use Rattle.decide_preconditions.specs.{Preconditions.StepsAnswer, Tags.names}
-use Rattle.decide_preconditions.specs.declared.precondition.Precondition.{Precondition, TheVariants.Perform}
-use Rattle.decide_preconditions.specs.declared.precondition.Precondition.TheVariants.{NotModified, Failed}
-use Rattle.decide_preconditions.specs.declared.resource.TargetState.{TargetState, TheVariants.{Missing, Current}}
+use Rattle.decide_preconditions.specs.Conditions.{ModifiedSinceLets, UnmodifiedSinceLets, dates}
+use Rattle.decide_preconditions.specs.Preconditions.{Answers, AreIgnored, IsGetOrHead, IsRead, IsStoredByDate}
+use Rattle.decide_preconditions.specs.Preconditions.{IsStoredByTag, IsUnconditional, MayBeThere, ReadsMissing}
+use Rattle.decide_preconditions.specs.{Preconditions.{StateIsKept, StateIsLost, StepsAnswer}, Tags.names}
+use Rattle.decide_preconditions.specs.declared.precondition.Precondition.{Precondition, TheVariants.Failed}
+use Rattle.decide_preconditions.specs.declared.precondition.Precondition.TheVariants.{NotModified, Perform}
+use Rattle.decide_preconditions.specs.declared.resource.TargetState.{TargetState, TheVariants.{Current, Missing}}
 use Rattle.decide_preconditions.specs.declared.{resource.Validators.Validators, tags.Comparison.Comparison}
-use Rattle.decide_preconditions.specs.declared.tags.Comparison.TheVariants.{Weak}
+use Rattle.{decide_preconditions.specs.declared.tags.Comparison.TheVariants.Weak, headers.specs.EntityTagRange.star}
+use Rattle.{headers.specs.{LineMap.LineMap, Lines.Line, Typed.HasLine}, rfc_values.specs.Calendar.unix_epoch}
+use Rattle.std.proofs.Common.{Bool, IfSome, IsTrue, List, Option, [], arith, inl, inr, refl, true, ℕ, ◌+◌, ◌<◌, ◌∷◌}
+use Rattle.std.proofs.{Common.{◌≡◌, ◌≤◌, ◌⊎◌}, lemmas.Bool.{both_ways, cases_Bool, cases_lt}}
+use Rattle.std.{proofs.lemmas.Slice.Eq.bytes_eq-Decides, specs.Prelude.{IsSomeAnd, bytes_eq, codes}}
 
 later_or_not : (both : Option (ℕ × ℕ)) → IsSomeAnd both (λ d. d.0 < unix_epoch + d.1)
     → ¬ (IfSome both (λ d. unix_epoch + d.1 ≤ d.0))

@@ -1,16 +1,15 @@
 -- What follows from the rows of `Selects`.
-use Rattle.std.proofs.Common.{◌≡◌, ◌↔◌, ◌⊎◌, ℕ, ◌+◌, ◌*◌, ◌<◌, ◌≤◌, true, false, List, [], Option, Some, None, Any}
-use Rattle.std.proofs.{Common.{length, filter_map, sum_by, refl, ap, inl, inr, arith}, lemmas.Bool.cases_Bool}
-use Rattle.{std.{proofs.lemmas.Bool.{cases_lt, Decides.nat_tests}, specs.Prelude.codes}, headers.specs.LineMap.LineMap}
-use Rattle.decide_preconditions.specs.{Limits.are_too_many, Merged.merged, Parts.{AreCoalesced, Holds, IsJoined}}
-use Rattle.decide_preconditions.specs.{Parts.part_size, RangeSets.{elements, part_in}, Selection.{Applies, AsksFor}}
-use Rattle.decide_preconditions.specs.Selection.{HasSelection, IsAsked, IsIgnored, IsSameSelection, Selects}
-use Rattle.decide_preconditions.specs.{Selection.{if_range_lets, set_asked}, declared.limits.RangeLimits.RangeLimits}
-use Rattle.decide_preconditions.specs.declared.{part.Part.Part, resource.Validators.Validators}
-use Rattle.decide_preconditions.{specs.declared.selection.Selection.Selection, proofs.PartLemmas.coalesced_from}
-use Rattle.decide_preconditions.proofs.PartLemmas.{coalesced_once, covers_from, IsJoined-same, joined_itself, ordered}
-use Rattle.decide_preconditions.proofs.{PartLemmas.sizes_of_coalesced, PreconditionLemmas.same_or_not}
-use Rattle.decide_preconditions.proofs.RangeSetLemmas.{parts_cover, parts_within}
+use Rattle.decide_preconditions.proofs.PartLemmas.{IsJoined-same, coalesced_from, coalesced_once, covers_from}
+use Rattle.decide_preconditions.{proofs.PartLemmas.{joined_itself, ordered, sizes_of_coalesced}, specs.Merged.merged}
+use Rattle.decide_preconditions.proofs.{PreconditionLemmas.same_or_not, RangeSetLemmas.{parts_cover, parts_within}}
+use Rattle.decide_preconditions.specs.{Limits.are_too_many, Parts.{AreCoalesced, Holds, IsJoined, part_size}}
+use Rattle.decide_preconditions.specs.{RangeSets.{elements, part_in}, declared.selection.Selection.Selection}
+use Rattle.decide_preconditions.specs.Selection.{Applies, AsksFor, HasSelection, IsAsked, IsIgnored, IsSameSelection}
+use Rattle.decide_preconditions.specs.{Selection.{Selects, if_range_lets, set_asked}, declared.part.Part.Part}
+use Rattle.decide_preconditions.specs.declared.{limits.RangeLimits.RangeLimits, resource.Validators.Validators}
+use Rattle.{headers.specs.LineMap.LineMap, std.{proofs.lemmas.Bool.Decides.nat_tests, specs.Prelude.codes}}
+use Rattle.std.proofs.Common.{Any, List, None, Option, Some, [], ap, arith, false, filter_map, inl, inr, length, refl}
+use Rattle.std.proofs.{Common.{sum_by, true, ℕ, ◌*◌, ◌+◌, ◌<◌, ◌↔◌, ◌≡◌, ◌≤◌, ◌⊎◌}, lemmas.Bool.{cases_Bool, cases_lt}}
 
 -- where no part is left, no position is asked for
 pub none_asked : (len gap : ℕ) (set : List ℕ) (xs : List Part) → length xs ≡ 0

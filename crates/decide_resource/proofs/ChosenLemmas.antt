@@ -1,16 +1,14 @@
 -- The representation at the place that a request selects is the first that its client prefers.
-use Rattle.std.proofs.Common.{◌≡◌, ℕ, suc, ◌<◌, ◌≤◌, Bool, true, false, List, [], ◌∷◌, length, get_or, Option, Some}
-use Rattle.std.proofs.{Common.{None, refl, sym, ◌∙◌, ap, inl, inr, arith}, lemmas.List.Folds.{find_at, list_all_at}}
-use Rattle.std.{proofs.lemmas.{List.Sums.position_or_len_is, Option.slice_get_cases}, specs.Prelude.{◌&&◌, find}}
-use Rattle.std.specs.{Prelude.{if◌then◌else◌, nat_le, nat_lt, option_and_then, slice_get}, List.list_all}
-use Rattle.{std.specs.Option.option_or, headers.specs.LineMap.LineMap}
-use Rattle.decide_negotiation.proofs.ChoiceLemmas.{picks_some}
-use Rattle.decide_negotiation.{specs.Choice.{IsFirstOfGreatest, Picks}, proofs.ChoiceLemmas.at_place as same_at}
-use Rattle.decide_resource.specs.{Answers.{IsSelected, at_place, place_in, place_of}, Applies.date_selected}
-use Rattle.decide_resource.specs.{Applies.{is_current, is_guarded, selected_of}, Representations.first_preferred}
-use Rattle.decide_resource.specs.{Representations.{is_preferred, score}, Vary.AskAlike}
+use Rattle.decide_negotiation.proofs.ChoiceLemmas.{at_place as same_at, picks_some}
+use Rattle.{decide_negotiation.specs.Choice.{IsFirstOfGreatest, Picks}, std.proofs.lemmas.List.Sums.position_or_len_is}
+use Rattle.decide_resource.{proofs.PickLemmas.picks_alike, specs.Answers.{IsSelected, at_place, place_in, place_of}}
+use Rattle.decide_resource.specs.{Applies.{date_selected, is_current, is_guarded, selected_of}, Vary.AskAlike}
+use Rattle.decide_resource.specs.{Representations.{first_preferred, is_preferred, score}, declared.resource.State.State}
 use Rattle.decide_resource.specs.declared.{representation.Representation.Representation, resource.Resource.Resource}
-use Rattle.decide_resource.{specs.declared.resource.State.State, proofs.PickLemmas.picks_alike}
+use Rattle.{headers.specs.LineMap.LineMap, std.{proofs.lemmas.Option.slice_get_cases, specs.List.list_all}}
+use Rattle.std.proofs.Common.{Bool, List, None, Option, Some, [], ap, arith, false, get_or, inl, inr, length, refl, suc}
+use Rattle.std.proofs.{Common.{sym, true, ℕ, ◌<◌, ◌∙◌, ◌∷◌, ◌≡◌, ◌≤◌}, lemmas.List.Folds.{find_at, list_all_at}}
+use Rattle.std.specs.{Option.option_or, Prelude.{find, if◌then◌else◌, nat_le, nat_lt, option_and_then, slice_get, ◌&&◌}}
 use Rattle.decide_resource.specs.declared.resource.State.TheVariants as state
 
 none_found : (p : Representation → Bool) (xs : List Representation)

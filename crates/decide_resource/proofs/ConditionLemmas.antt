@@ -1,13 +1,12 @@
 -- Conditions are evaluated on the representation that the request without them gets.
-use Rattle.std.proofs.Common.{arith}
-use Rattle.std.proofs.Common.{◌≡◌, ℕ, Bool, true, false, List, Option, Some, None, refl, sym, ◌∙◌}
-use Rattle.{headers.specs.LineMap.Field, decide_preconditions.specs.declared.plan.Plan.Plan}
-use Rattle.{decide_preconditions.specs.declared.response.Response.Response, decide_resource.specs.Answers.GivesIf}
+use Rattle.decide_preconditions.specs.declared.{plan.Plan.Plan, response.Response.Response}
+use Rattle.decide_resource.{proofs.{AnswerLemmas.one_place, ChosenLemmas.same_selected}, specs.Answers.GivesIf}
 use Rattle.decide_resource.specs.{Answers.{IsAnswer, IsSelected, is_admitted, is_sent, sent_for}, Representations.score}
 use Rattle.decide_resource.specs.{Requests.{Request, unconditional}, declared.answer.{Answer.Answer, Sends.Sends}}
 use Rattle.decide_resource.specs.declared.reason.Reason.{Reason, TheVariants.NotAcceptable}
 use Rattle.decide_resource.specs.declared.{representation.Representation.Representation, resource.Resource.Resource}
-use Rattle.decide_resource.proofs.{AnswerLemmas.one_place, ChosenLemmas.same_selected}
+use Rattle.{headers.specs.LineMap.Field, std.proofs.Common.{Bool, List, None, Option, Some, arith, false, refl, sym}}
+use Rattle.std.proofs.Common.{true, ℕ, ◌∙◌, ◌≡◌}
 use Rattle.decide_resource.specs.declared.answer.Sends.TheVariants as sends
 
 module _ (present : ℕ) (resource : Resource) (request : Request) where

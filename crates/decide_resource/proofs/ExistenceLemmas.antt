@@ -1,30 +1,28 @@
 -- A request has an answer.
-use Rattle.std.proofs.Common.{◌≡◌, ℕ, ◌+◌, ◌<◌, ◌≤◌, ◌^◌, Bool, true, false, List, [], ◌∷◌, ◌++◌, length, length-append}
-use Rattle.std.proofs.Common.{Option, Some, None, cond, zero, suc, refl, sym, subst, arith, inl, inr}
-use Rattle.std.proofs.lemmas.{Bool.ltb-false, List.Elements.{All-head, All-tail}}
-use Rattle.std.specs.Prelude.{◌&&◌, ◌||◌, All, IfSome, bytes_eq, codes, find, if◌then◌else◌, nat_lt, slice_get}
-use Rattle.{http_header.specs.FieldValue.FieldValue, headers.specs.{LineMap.{Field, fields_of, lines_at}, Lines.Line}}
-use Rattle.decide_cors.{specs.Policy.Policy, proofs.MadeLemmas.{Fit, fit-append, fit-more, fit-none, made}}
-use Rattle.decide_cors.proofs.MadeLemmas.{fit-weaker, policy_fits, some_answer as some_policy_answer, vec}
-use Rattle.{decide_cors.specs.Kinds.is_preflight, decide_preconditions.specs.Contents.{divisible_len, limits_of}}
+use Rattle.decide_cors.proofs.MadeLemmas.{Fit, fit-append, fit-more, fit-none, fit-weaker, made, policy_fits}
+use Rattle.decide_cors.{proofs.MadeLemmas.{some_answer as some_policy_answer, vec}, specs.Kinds.is_preflight}
+use Rattle.{decide_cors.specs.Policy.Policy, headers.specs.Lines.Line, std.proofs.lemmas.Bool.ltb-false}
+use Rattle.decide_preconditions.{proofs.OnePlanLemmas.some_plan, specs.Plans.{IsPlan, Reads, SendsParts}}
+use Rattle.decide_preconditions.specs.{Contents.{divisible_len, limits_of}, declared.content.Content.Content}
 use Rattle.decide_preconditions.specs.Fields.{fields_sent, is_known_by, is_whole, keeps_encoding, lines_sent}
-use Rattle.decide_preconditions.specs.Fields.{status_of as status_of_plan}
-use Rattle.decide_preconditions.specs.{Plans.{IsPlan, Reads, SendsParts}, Responses.IsAnswered}
-use Rattle.decide_preconditions.specs.declared.{content.Content.Content, part.Part.Part, plan.Plan.Plan}
-use Rattle.decide_preconditions.specs.declared.response.Response.{Response}
+use Rattle.decide_preconditions.specs.{Fields.status_of as status_of_plan, declared.response.Response.Response}
+use Rattle.decide_preconditions.specs.{Responses.IsAnswered, declared.{part.Part.Part, plan.Plan.Plan}}
 use Rattle.decide_preconditions.specs.declared.resource.{TargetState.TargetState as Target, Validators.Validators}
-use Rattle.{decide_preconditions.proofs.OnePlanLemmas.some_plan, decide_resource.specs.Answers.{FitsMemory, GivesIf}}
-use Rattle.decide_resource.specs.Answers.{Gives, HasFewParts, IsAnswer, IsShared, TakesFew, at_place, content_of}
-use Rattle.decide_resource.specs.Answers.{is_admitted, is_sent, response_fields, sent_for, status_sent, target_of}
-use Rattle.decide_resource.specs.{Answers.{varying, with_metadata}, Applies.{rule, rule_for}}
+use Rattle.{decide_resource.proofs.ChosenLemmas.some_place, headers.specs.LineMap.{Field, fields_of, lines_at}}
+use Rattle.{decide_resource.proofs.OneReasonLemmas.some_reason, std.proofs.lemmas.List.Elements.{All-head, All-tail}}
+use Rattle.decide_resource.specs.Answers.{FitsMemory, Gives, GivesIf, HasFewParts, IsAnswer, IsShared, TakesFew}
+use Rattle.decide_resource.specs.Answers.{at_place, content_of, is_admitted, is_sent, response_fields, sent_for}
+use Rattle.decide_resource.specs.{Answers.{status_sent, target_of, varying, with_metadata}, Fields.vary_lines}
+use Rattle.{decide_resource.specs.{Applies.{rule, rule_for}, Requests.Request}, http_header.specs.FieldValue.FieldValue}
 use Rattle.decide_resource.specs.Fields.{accept_encoding_fields, codings_told, denied_fields, depends_on_selection}
 use Rattle.decide_resource.specs.Fields.{describes, line_if, lines_of_value, location_fields, metadata_fields}
 use Rattle.decide_resource.specs.Fields.{reason_fields, retry_fields, selecting, status_of, types_fields, vary_fields}
-use Rattle.decide_resource.specs.{Fields.vary_lines, Requests.Request, declared.answer.{Answer.Answer, Sends.Sends}}
-use Rattle.decide_resource.specs.declared.{reason.Reason.Reason, representation.Representation.Representation}
-use Rattle.decide_resource.specs.declared.{denied.Denied.Denied as Denial, resource.MethodRule.MethodRule}
-use Rattle.decide_resource.specs.declared.resource.{Resource.Resource, State.State}
-use Rattle.decide_resource.proofs.{ChosenLemmas.some_place, OneReasonLemmas.some_reason}
+use Rattle.decide_resource.specs.declared.{answer.Answer.Answer, resource.{MethodRule.MethodRule, Resource.Resource}}
+use Rattle.decide_resource.specs.declared.{answer.Sends.Sends, reason.Reason.Reason, resource.State.State}
+use Rattle.decide_resource.specs.declared.{denied.Denied.Denied as Denial, representation.Representation.Representation}
+use Rattle.std.proofs.Common.{Bool, List, None, Option, Some, [], arith, cond, false, inl, inr, length, length-append}
+use Rattle.std.proofs.Common.{refl, subst, suc, sym, true, zero, ℕ, ◌++◌, ◌+◌, ◌<◌, ◌^◌, ◌∷◌, ◌≡◌, ◌≤◌}
+use Rattle.std.specs.Prelude.{All, IfSome, bytes_eq, codes, find, if◌then◌else◌, nat_lt, slice_get, ◌&&◌, ◌||◌}
 use Rattle.decide_preconditions.specs.declared.plan.Plan.TheVariants as plans
 use Rattle.decide_resource.specs.declared.denied.Denied.TheVariants as denied
 use Rattle.decide_resource.specs.declared.resource.State.TheVariants as state

@@ -1,25 +1,23 @@
 -- A method that is performed replaces what its request names, and conditions decide last.
-use Rattle.std.proofs.Common.{◌≡◌, ◌≢◌, ◌⊎◌, ◌<◌, ℕ, Bool, true, false, List, [], ◌∷◌, Option, Some, None, refl, sym}
-use Rattle.std.proofs.{Common.{◌∙◌, subst, inl, inr, arith, bytes_eq, lit<}, lemmas.Bool.{and_parts, both_ways}}
-use Rattle.std.proofs.lemmas.{Bool.{leb-true, ltb-false, ltb-true, or_cases}, Slice.Eq.bytes_eq-Decides}
-use Rattle.std.specs.Prelude.{◌+◌, ◌≤◌, ◌&&◌, ◌||◌, IfSome, IsSomeAnd, codes, if◌then◌else◌, nat_le, not}
-use Rattle.{std.specs.{Prelude.option_and_then, Option.option_map_or}, rfc_values.specs.Calendar.unix_epoch}
-use Rattle.headers.specs.{LineMap.{Field, LineMap}, Lines.Line, Typed.HasLine}
-use Rattle.decide_preconditions.specs.{Conditions.{dates, modified_of}, Preconditions.{Answers, AreIgnored, HasIfMatch}}
-use Rattle.decide_preconditions.specs.Preconditions.{IsGetOrHead, IsUnconditional, StepsAnswer}
-use Rattle.decide_preconditions.specs.{Tags.is_star, declared.resource.TargetState.TargetState as Target}
-use Rattle.decide_preconditions.specs.{declared.response.Response.Response, Responses.IsAnswered}
+use Rattle.decide_preconditions.specs.{Conditions.{dates, modified_of}, Responses.IsAnswered, Tags.is_star}
+use Rattle.decide_preconditions.specs.Preconditions.{Answers, AreIgnored, HasIfMatch, IsGetOrHead, IsUnconditional}
+use Rattle.{decide_preconditions.specs.Preconditions.StepsAnswer, decide_resource.specs.Answers.{sent_for, target_of}}
+use Rattle.decide_preconditions.specs.declared.{resource.TargetState.TargetState as Target, response.Response.Response}
+use Rattle.decide_resource.{proofs.{ChosenLemmas.date_at, OneReasonLemmas.one_reason}, specs.Representations.score}
 use Rattle.decide_resource.specs.Answers.{GivesIf, IsAnswer, IsSelected, at_place, content_of, is_admitted, is_sent}
-use Rattle.decide_resource.specs.{Answers.{sent_for, target_of}, Applies.{applies, date_selected, is_dated, is_guarded}}
-use Rattle.decide_resource.specs.Applies.{is_present, is_read, is_unacceptable, names_current, needs_condition, rule}
-use Rattle.decide_resource.specs.{Applies.{rule_for, takes_type}, Guards.{IsNamed, ReplacesDated, ReplacesListed}}
-use Rattle.decide_resource.specs.{Guards.{ReplacesNamed, ReplacesNothing}, Reasons.{IsFirst, stage}}
-use Rattle.decide_resource.specs.{Representations.score, Requests.{Request, unconditional}}
-use Rattle.decide_resource.specs.declared.{answer.{Answer.Answer, Sends.Sends}, reason.Reason.Reason}
-use Rattle.decide_resource.specs.declared.reason.Reason.TheVariants.{NotAcceptable, PreconditionRequired, Admitted}
+use Rattle.decide_resource.specs.Applies.{applies, date_selected, is_dated, is_guarded, is_present, is_read}
+use Rattle.decide_resource.specs.Applies.{is_unacceptable, names_current, needs_condition, rule, rule_for, takes_type}
+use Rattle.decide_resource.specs.Guards.{IsNamed, ReplacesDated, ReplacesListed, ReplacesNamed, ReplacesNothing}
+use Rattle.decide_resource.specs.{Reasons.{IsFirst, stage}, declared.{reason.Reason.Reason, resource.State.State}}
+use Rattle.decide_resource.specs.{Requests.{Request, unconditional}, declared.answer.{Answer.Answer, Sends.Sends}}
+use Rattle.decide_resource.specs.declared.reason.Reason.TheVariants.{Admitted, NotAcceptable, PreconditionRequired}
 use Rattle.decide_resource.specs.declared.{representation.Representation.Representation, resource.Resource.Resource}
-use Rattle.decide_resource.{specs.declared.resource.State.State, proofs.ChosenLemmas.date_at}
-use Rattle.decide_resource.proofs.OneReasonLemmas.{one_reason}
+use Rattle.{headers.specs.{LineMap.{Field, LineMap}, Typed.HasLine}, std.proofs.lemmas.Slice.Eq.bytes_eq-Decides}
+use Rattle.{headers.specs.Lines.Line, rfc_values.specs.Calendar.unix_epoch}
+use Rattle.std.proofs.Common.{Bool, List, None, Option, Some, [], arith, bytes_eq, false, inl, inr, lit<, refl, subst}
+use Rattle.std.{proofs.Common.{sym, true, ℕ, ◌<◌, ◌∙◌, ◌∷◌, ◌≡◌, ◌≢◌, ◌⊎◌}, specs.{Option.option_map_or, Prelude.◌≤◌}}
+use Rattle.std.proofs.lemmas.Bool.{and_parts, both_ways, leb-true, ltb-false, ltb-true, or_cases}
+use Rattle.std.specs.Prelude.{IfSome, IsSomeAnd, codes, if◌then◌else◌, nat_le, not, option_and_then, ◌&&◌, ◌+◌, ◌||◌}
 use Rattle.decide_preconditions.specs.declared.precondition.Precondition.TheVariants as precondition
 use Rattle.decide_preconditions.specs.declared.resource.TargetState.TheVariants as target
 use Rattle.decide_resource.specs.declared.answer.Sends.TheVariants as sends

@@ -1,17 +1,16 @@
 -- A HEAD is answered as a GET without Range.
-use Rattle.std.{proofs.Common.{arith, ◌≡◌, ℕ, Bool, true, false, List, Option, Some, None, refl}, specs.Prelude.codes}
-use Rattle.{http_header.specs.FieldValue.FieldValue, headers.specs.{LineMap.Field, Lines.Line}}
-use Rattle.decide_cors.specs.{Kinds.IsKindOf, Policy.Policy, declared.kind.CorsKind.CorsKind}
-use Rattle.decide_preconditions.specs.{Responses.IsAnswered, declared.content.Content.Content}
+use Rattle.{decide_cors.specs.{Kinds.IsKindOf, Policy.Policy}, headers.specs.{LineMap.Field, Lines.Line}}
+use Rattle.{decide_cors.specs.declared.kind.CorsKind.CorsKind, decide_resource.proofs.ChosenLemmas.same_selected}
+use Rattle.decide_preconditions.{proofs.HeadLemmas.head_as_get, specs.declared.content.Content.Content}
+use Rattle.{decide_preconditions.specs.Responses.IsAnswered, decide_resource.specs.Representations.score}
 use Rattle.decide_preconditions.specs.declared.{resource.TargetState.TargetState as Target, response.Response.Response}
-use Rattle.{decide_preconditions.proofs.HeadLemmas.head_as_get, decide_resource.specs.Answers.{GivesIf, IsAnswer}}
-use Rattle.decide_resource.specs.{Answers.{IsSelected, IsShared, response_fields}, Applies.{applies, is_missing}}
-use Rattle.decide_resource.specs.{Applies.{is_unacceptable, rule_for, takes_type}, Fields.reason_fields}
-use Rattle.decide_resource.specs.{Representations.score, Requests.{Request, get_of, head_of}}
-use Rattle.decide_resource.specs.declared.{answer.{Answer.Answer, Sends.Sends}, reason.Reason.Reason}
+use Rattle.decide_resource.{proofs.PickLemmas.first_alike, specs.declared.{reason.Reason.Reason, resource.State.State}}
+use Rattle.decide_resource.specs.Answers.{GivesIf, IsAnswer, IsSelected, IsShared, response_fields}
+use Rattle.decide_resource.specs.Applies.{applies, is_missing, is_unacceptable, rule_for, takes_type}
+use Rattle.{decide_resource.specs.Fields.reason_fields, http_header.specs.FieldValue.FieldValue}
+use Rattle.decide_resource.specs.{Requests.{Request, get_of, head_of}, declared.answer.{Answer.Answer, Sends.Sends}}
 use Rattle.decide_resource.specs.declared.{representation.Representation.Representation, resource.Resource.Resource}
-use Rattle.decide_resource.specs.declared.resource.State.{State}
-use Rattle.decide_resource.proofs.{ChosenLemmas.same_selected, PickLemmas.first_alike}
+use Rattle.std.{proofs.Common.{Bool, List, None, Option, Some, arith, false, refl, true, ℕ, ◌≡◌}, specs.Prelude.codes}
 use Rattle.decide_cors.specs.declared.kind.CorsKind.TheVariants as kinds
 use Rattle.decide_resource.specs.declared.resource.State.TheVariants as states
 

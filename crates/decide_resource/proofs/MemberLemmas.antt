@@ -1,23 +1,21 @@
 -- What a resource answers depends on the members of Accept, Accept-Language and Accept-Encoding, and not on the field
 -- lines in which they are.
-use Rattle.std.proofs.Common.{◌≡◌, ◌↔◌, ℕ, Bool, true, false, List, [], ◌∷◌, Option, Some, None, refl, sym, ◌∙◌, ap}
-use Rattle.std.{proofs.Common.{inl, inr, arith, bytes_eq}, specs.Prelude.{◌&&◌, codes, if◌then◌else◌, length, nat_lt}}
-use Rattle.std.specs.Prelude.{not}
-use Rattle.{headers.specs.{LineMap.{Field, LineMap}, Lines.Line}, decide_cors.specs.Answer.IsAnswer as IsPolicyAnswer}
-use Rattle.decide_cors.specs.{Kinds.IsKindOf, Policy.Policy, declared.kind.CorsKind.CorsKind}
-use Rattle.{decide_cors.specs.declared.policy.CorsAnswer.CorsAnswer, rfc_fields.specs.Scan.Member}
-use Rattle.decide_negotiation.specs.declared.acceptability.Quality.{Quality}
-use Rattle.{decide_preconditions.specs.declared.response.Response.Response, decide_resource.specs.Answers.GivesIf}
-use Rattle.decide_resource.specs.Answers.{IsAnswer, IsShared, at_place, content_of, is_admitted, response_fields}
-use Rattle.decide_resource.specs.{Answers.{target_of, varying}, Applies.{applies, is_current, is_read, is_unacceptable}}
-use Rattle.decide_resource.specs.{Applies.{needs_condition, rule, takes_type}, Fields.{reason_fields, vary_lines}}
-use Rattle.decide_resource.specs.{Representations.{are_unacceptable, rank_by, score}, Requests.Request, Vary.AreAlike}
-use Rattle.decide_resource.specs.{Vary.{AskAlike, ChooseAlike, ListAlike, SelectTheSame}, declared.answer.Answer.Answer}
-use Rattle.decide_resource.specs.declared.{answer.Sends.Sends, reason.Reason.Reason}
+use Rattle.decide_cors.specs.{Answer.IsAnswer as IsPolicyAnswer, Kinds.IsKindOf, declared.policy.CorsAnswer.CorsAnswer}
+use Rattle.{decide_cors.specs.Policy.Policy, decide_preconditions.specs.declared.response.Response.Response}
+use Rattle.{decide_cors.specs.declared.kind.CorsKind.CorsKind, decide_resource.proofs.SamePlanLemmas.answered}
+use Rattle.{decide_negotiation.specs.declared.acceptability.Quality.Quality, headers.specs.LineMap.{Field, LineMap}}
+use Rattle.decide_resource.{proofs.ChosenLemmas.{same_guard, same_selected}, specs.declared.resource.Resource.Resource}
+use Rattle.decide_resource.{proofs.OtherFieldLemmas.{alike_back, other_fields}, specs.declared.answer.Sends.Sends}
+use Rattle.{decide_resource.proofs.PickLemmas.first_alike, headers.specs.Lines.Line, rfc_fields.specs.Scan.Member}
+use Rattle.decide_resource.specs.Answers.{GivesIf, IsAnswer, IsShared, at_place, content_of, is_admitted}
+use Rattle.decide_resource.specs.{Answers.{response_fields, target_of, varying}, Applies.takes_type, Requests.Request}
+use Rattle.decide_resource.specs.Applies.{applies, is_current, is_read, is_unacceptable, needs_condition, rule}
+use Rattle.decide_resource.specs.{Fields.{reason_fields, vary_lines}, declared.reason.Reason.Reason}
+use Rattle.decide_resource.specs.{Representations.{are_unacceptable, rank_by, score}, declared.answer.Answer.Answer}
+use Rattle.decide_resource.specs.Vary.{AreAlike, AskAlike, ChooseAlike, ListAlike, SelectTheSame}
 use Rattle.decide_resource.specs.declared.representation.{Negotiation.Negotiation, Representation.Representation}
-use Rattle.decide_resource.{specs.declared.resource.Resource.Resource, proofs.OtherFieldLemmas.alike_back}
-use Rattle.decide_resource.proofs.{OtherFieldLemmas.other_fields, ChosenLemmas.{same_guard, same_selected}}
-use Rattle.decide_resource.proofs.{PickLemmas.first_alike, SamePlanLemmas.answered}
+use Rattle.std.proofs.Common.{Bool, List, None, Option, Some, [], ap, arith, bytes_eq, false, inl, inr, refl, sym, true}
+use Rattle.std.{proofs.Common.{ℕ, ◌↔◌, ◌∙◌, ◌∷◌, ◌≡◌}, specs.Prelude.{codes, if◌then◌else◌, length, nat_lt, not, ◌&&◌}}
 
 rank_same : (gives : List Member → List ℕ → Quality) (used : Bool) (lines others : List Line) (offer : Option Line)
     → ListAlike lines others → rank_by gives used lines offer ≡ rank_by gives used others offer

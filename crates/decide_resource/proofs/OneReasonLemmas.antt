@@ -1,18 +1,17 @@
 -- A request has one first reason.
-use Rattle.std.proofs.Common.{arith, ◌≡◌, ℕ, ◌<◌, Bool, true, false, List, [], ◌∷◌, Option, Some, None, refl, sym}
-use Rattle.std.{proofs.{Common.{subst, inl, inr}, lemmas.Bool.cases_order}, specs.Prelude.{◌&&◌, ◌==◌, find}}
-use Rattle.{std.specs.Prelude.if◌then◌else◌, decide_resource.specs.Applies.{applies, exceeds, has_moved, is_gone}}
-use Rattle.decide_resource.specs.{Applies.{is_missing, is_unsized}, Reasons.{IsFirst, in_order, or_admitted, stage}}
-use Rattle.decide_resource.specs.{Requests.Request, declared.reason.Reason.{Reason, TheVariants.InvalidHost}}
-use Rattle.decide_resource.specs.declared.reason.Reason.TheVariants.{Misdirected, Preflight, Denied, UnknownMethod}
-use Rattle.decide_resource.specs.declared.reason.Reason.TheVariants.{MethodNotAllowed, UnmetExpectation, PartialContent}
-use Rattle.decide_resource.specs.declared.reason.Reason.TheVariants.{Moved, Gone, NotFound, Options, LengthRequired}
-use Rattle.decide_resource.specs.declared.reason.Reason.TheVariants.{ContentTooLarge, UnsupportedMediaType}
-use Rattle.decide_resource.specs.declared.reason.Reason.TheVariants.{UnsupportedCoding, NotAcceptable}
-use Rattle.decide_resource.specs.declared.reason.Reason.TheVariants.{PreconditionRequired, Admitted}
+use Rattle.decide_resource.{proofs.ReasonLemmas.{Among, first_in_order}, specs.Applies.{applies, exceeds, has_moved}}
+use Rattle.decide_resource.specs.{Applies.{is_gone, is_missing, is_unsized}, Reasons.{IsFirst, in_order, or_admitted}}
+use Rattle.decide_resource.specs.{Reasons.stage, Requests.Request, declared.reason.Reason.Reason}
+use Rattle.decide_resource.specs.declared.reason.Reason.TheVariants.{Admitted, ContentTooLarge, Denied, Gone}
+use Rattle.decide_resource.specs.declared.reason.Reason.TheVariants.{InvalidHost, LengthRequired, MethodNotAllowed}
+use Rattle.decide_resource.specs.declared.reason.Reason.TheVariants.{Misdirected, Moved, NotAcceptable, NotFound}
+use Rattle.decide_resource.specs.declared.reason.Reason.TheVariants.{Options, PartialContent, PreconditionRequired}
+use Rattle.decide_resource.specs.declared.reason.Reason.TheVariants.{Preflight, UnknownMethod, UnmetExpectation}
+use Rattle.decide_resource.specs.declared.reason.Reason.TheVariants.{UnsupportedCoding, UnsupportedMediaType}
 use Rattle.decide_resource.specs.declared.{request.RequestContent.RequestContent, resource.MethodRule.MethodRule}
-use Rattle.decide_resource.{specs.declared.resource.{Resource.Resource, State.State}, proofs.ReasonLemmas.Among}
-use Rattle.decide_resource.proofs.ReasonLemmas.{first_in_order}
+use Rattle.{decide_resource.specs.declared.resource.{Resource.Resource, State.State}, std.proofs.Common.{Bool, List}}
+use Rattle.std.proofs.Common.{None, Option, Some, [], arith, false, inl, inr, refl, subst, sym, true, ℕ, ◌<◌, ◌∷◌, ◌≡◌}
+use Rattle.std.{proofs.lemmas.Bool.cases_order, specs.Prelude.{find, if◌then◌else◌, ◌&&◌, ◌==◌}}
 use Rattle.decide_resource.specs.declared.request.RequestContent.TheVariants as sent
 use Rattle.decide_resource.specs.declared.resource.State.TheVariants as state
 

@@ -1,28 +1,26 @@
 -- Allow, ETag and Last-Modified of an answer.
-use Rattle.std.proofs.Common.{◌≡◌, ◌≢◌, ◌↔◌, ◌⊎◌, ℕ, Bool, true, false, List, [], ◌∷◌, ◌++◌, Option, Some, None, refl}
-use Rattle.std.proofs.{Common.{sym, ◌∙◌, ap, subst, inl, inr, lit<, lit≤, arith, bytes_eq}, lemmas.Bool.and_parts}
-use Rattle.std.{proofs.lemmas.Bool.cases_order, specs.Prelude.{◌||◌, Contains, codes, if◌then◌else◌, is_some, not}}
-use Rattle.{http_header.specs.FieldValue.FieldValue, headers.specs.{Date.fixdate, LineMap.{Field, LineMap, fields_of}}}
-use Rattle.headers.specs.{LineMap.set_all, Lines.Line, Merge.merge, Places.comma}
-use Rattle.decide_cors.specs.{Browser.{IsPreflightFor, PreflightPasses, Request as Sent}, Fields.covers_origin}
-use Rattle.decide_cors.specs.{Fields.{grant_fields, vary_sent}, Policy.Policy, Rules.{AllowsRequest, IsLawful}}
-use Rattle.decide_cors.specs.{Rules.IsPolicyOf, declared.rules.CorsRules.CorsRules}
-use Rattle.decide_preconditions.specs.{Conditions.modified_of, Fields.{etag_of, fields_sent, is_known_by, lines_sent}}
-use Rattle.decide_preconditions.specs.{Fields.{modified_without, not_after}, Responses.IsAnswered}
-use Rattle.decide_preconditions.specs.declared.{content.Content.Content, plan.Plan.{Plan, TheVariants.Full}}
-use Rattle.decide_preconditions.specs.declared.plan.Plan.TheVariants.{NotModified}
-use Rattle.decide_preconditions.specs.declared.resource.TargetState.{TargetState as Target}
-use Rattle.{decide_preconditions.specs.declared.response.Response.Response, decide_resource.specs.Answers.GivesIf}
-use Rattle.decide_resource.specs.Answers.{IsAnswer, IsShared, Stops, at_place, content_of, is_admitted, is_sent}
-use Rattle.decide_resource.specs.{Answers.{response_fields, sent_for, target_of, with_metadata}, Applies.applies}
-use Rattle.decide_resource.specs.{Applies.{is_implemented, methods, rule_for}, Fields.{offered_fields, types_fields}}
-use Rattle.decide_resource.specs.{Fields.vary_fields, Reasons.{Before, IsFirst, stage}, Requests.Request}
-use Rattle.decide_resource.specs.{Requests.unconditional, declared.answer.{Answer.Answer, Sends.Sends}}
+use Rattle.decide_cors.specs.{Browser.{IsPreflightFor, PreflightPasses, Request as Sent}, Policy.Policy}
+use Rattle.decide_cors.specs.{Fields.{covers_origin, grant_fields, vary_sent}, declared.rules.CorsRules.CorsRules}
+use Rattle.{decide_cors.specs.Rules.{AllowsRequest, IsLawful, IsPolicyOf}, http_header.specs.FieldValue.FieldValue}
+use Rattle.decide_preconditions.specs.{Conditions.modified_of, declared.{content.Content.Content, plan.Plan.Plan}}
+use Rattle.decide_preconditions.specs.Fields.{etag_of, fields_sent, is_known_by, lines_sent, modified_without}
+use Rattle.decide_preconditions.specs.{Fields.not_after, declared.resource.TargetState.TargetState as Target}
+use Rattle.{decide_preconditions.specs.Responses.IsAnswered, headers.specs.LineMap.{Field, LineMap, fields_of, set_all}}
+use Rattle.decide_preconditions.specs.declared.{plan.Plan.TheVariants.{Full, NotModified}, response.Response.Response}
+use Rattle.decide_resource.{proofs.AllowLemmas.{allow_is_exact, allow_lists}, specs.declared.resource.Resource.Resource}
+use Rattle.decide_resource.proofs.{ConditionLemmas.same_place, SharedLemmas.{preflight_of_answer, set_all-append}}
+use Rattle.decide_resource.specs.Answers.{GivesIf, IsAnswer, IsShared, Stops, at_place, content_of, is_admitted}
+use Rattle.decide_resource.specs.Answers.{is_sent, response_fields, sent_for, target_of, with_metadata}
+use Rattle.decide_resource.specs.{Applies.{applies, is_implemented, methods, rule_for}, declared.answer.Answer.Answer}
+use Rattle.decide_resource.specs.{Fields.{offered_fields, types_fields, vary_fields}, Requests.{Request, unconditional}}
+use Rattle.decide_resource.specs.{Reasons.{Before, IsFirst, stage}, declared.answer.Sends.Sends}
 use Rattle.decide_resource.specs.declared.reason.Reason.{Reason, TheVariants.{MethodNotAllowed, NotAcceptable, Options}}
 use Rattle.decide_resource.specs.declared.reason.Reason.TheVariants.{Preflight, UnknownMethod, UnmetExpectation}
 use Rattle.decide_resource.specs.declared.{representation.Representation.Representation, resource.MethodRule.MethodRule}
-use Rattle.decide_resource.{specs.declared.resource.Resource.Resource, proofs.AllowLemmas.{allow_is_exact, allow_lists}}
-use Rattle.decide_resource.proofs.{ConditionLemmas.same_place, SharedLemmas.{preflight_of_answer, set_all-append}}
+use Rattle.{headers.specs.Date.fixdate, std.specs.Prelude.{Contains, codes, if◌then◌else◌, is_some, not, ◌||◌}}
+use Rattle.{headers.specs.{Lines.Line, Merge.merge, Places.comma}, std.proofs.lemmas.Bool.{and_parts, cases_order}}
+use Rattle.std.proofs.Common.{Bool, List, None, Option, Some, [], ap, arith, bytes_eq, false, inl, inr, lit<, lit≤}
+use Rattle.std.proofs.Common.{refl, subst, sym, true, ℕ, ◌++◌, ◌↔◌, ◌∙◌, ◌∷◌, ◌≡◌, ◌≢◌, ◌⊎◌}
 use Rattle.decide_resource.specs.declared.answer.Sends.TheVariants as sends
 
 -- ---- what neither Vary nor a policy sets

@@ -1,8 +1,7 @@
 -- The first reason that applies.
-use Rattle.std.proofs.Common.{◌≡◌, ◌⊎◌, ◌<◌, ◌≤◌, Bool, true, false, cond, List, [], ◌∷◌, Option, Some, None, refl, sym}
-use Rattle.std.{proofs.Common.{ap, subst, inl, inr, arith, lit≤}, specs.Prelude.find}
-use Rattle.decide_resource.specs.Reasons.{Before, IsFirst, in_order, or_admitted, stage}
-use Rattle.decide_resource.specs.declared.reason.Reason.{Reason}
+use Rattle.{decide_resource.specs.Reasons.{Before, IsFirst, in_order, or_admitted, stage}, std.specs.Prelude.find}
+use Rattle.{decide_resource.specs.declared.reason.Reason.Reason, std.proofs.Common.{sym, true, ◌<◌, ◌∷◌, ◌≡◌, ◌≤◌, ◌⊎◌}}
+use Rattle.std.proofs.Common.{Bool, List, None, Option, Some, [], ap, arith, cond, false, inl, inr, lit≤, refl, subst}
 
 -- each reason is no earlier than the one before it
 abbrev IsChain : Reason → List Reason → Type 0

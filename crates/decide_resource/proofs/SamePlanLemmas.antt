@@ -1,18 +1,17 @@
 -- Requests with the same conditions and the same range have the same plan.
-use Rattle.std.proofs.Common.{arith, ◌≡◌, ◌⊎◌, ℕ, List, [], ◌∷◌, Option, Some, None, ◌∙◌, ap, subst, inl, inr, length}
-use Rattle.std.{proofs.Common.bytes_eq, specs.{Prelude.{codes, if◌then◌else◌, nat_lt}, Option.option_and_then}}
-use Rattle.{std.specs.Option.option_map_or, http_header.specs.FieldValue.FieldValue, headers.specs.LineMap.LineMap}
-use Rattle.{headers.specs.Lines.Line, decide_preconditions.specs.Contents.{divisible_len, limits_of}}
-use Rattle.decide_preconditions.specs.{Fields.fields_sent, Plans.{IsPlan, Reads, SendsParts}, Preconditions.Answers}
-use Rattle.decide_preconditions.specs.Preconditions.{IsRead, IsStoredByDate, IsStoredByTag, MayBeThere, StateIsKept}
-use Rattle.decide_preconditions.specs.{Preconditions.{StateIsLost, StepsAnswer}, Responses.IsAnswered}
-use Rattle.decide_preconditions.specs.{Selection.{Applies, AsksFor, Selects}, declared.content.Content.Content}
-use Rattle.decide_preconditions.specs.declared.{limits.RangeLimits.RangeLimits, part.Part.Part, plan.Plan.Plan}
-use Rattle.decide_preconditions.specs.declared.plan.Plan.TheVariants.{NotModified, Failed, Full, Single, Multiple}
-use Rattle.decide_preconditions.specs.declared.plan.Plan.TheVariants.{Unsatisfiable}
-use Rattle.decide_preconditions.specs.declared.precondition.Precondition.{Precondition}
+use Rattle.decide_preconditions.specs.{Contents.{divisible_len, limits_of}, declared.content.Content.Content}
+use Rattle.{decide_preconditions.specs.Fields.fields_sent, http_header.specs.FieldValue.FieldValue}
+use Rattle.decide_preconditions.specs.{Plans.{IsPlan, Reads, SendsParts}, Responses.IsAnswered, declared.plan.Plan.Plan}
+use Rattle.decide_preconditions.specs.Preconditions.{Answers, IsRead, IsStoredByDate, IsStoredByTag, MayBeThere}
+use Rattle.decide_preconditions.specs.{Preconditions.{StateIsKept, StateIsLost, StepsAnswer}, declared.part.Part.Part}
+use Rattle.decide_preconditions.specs.{Selection.{Applies, AsksFor, Selects}, declared.response.Response.Response}
+use Rattle.decide_preconditions.specs.declared.{limits.RangeLimits.RangeLimits, precondition.Precondition.Precondition}
+use Rattle.decide_preconditions.specs.declared.plan.Plan.TheVariants.{Failed, Full, Multiple, NotModified, Single}
+use Rattle.{decide_preconditions.specs.declared.plan.Plan.TheVariants.Unsatisfiable, std.proofs.Common.{◌≡◌, ◌⊎◌}}
 use Rattle.decide_preconditions.specs.declared.resource.{TargetState.TargetState, Validators.Validators}
-use Rattle.{decide_preconditions.specs.declared.response.Response.Response, decide_resource.specs.Vary.AskAlike}
+use Rattle.{decide_resource.specs.Vary.AskAlike, headers.specs.{LineMap.LineMap, Lines.Line}}
+use Rattle.std.proofs.Common.{List, None, Option, Some, [], ap, arith, bytes_eq, inl, inr, length, subst, ℕ, ◌∙◌, ◌∷◌}
+use Rattle.std.specs.{Option.{option_and_then, option_map_or}, Prelude.{codes, if◌then◌else◌, nat_lt}}
 use Rattle.decide_preconditions.specs.declared.precondition.Precondition.TheVariants as precondition
 use Rattle.decide_preconditions.specs.declared.selection.Selection.TheVariants as selection
 

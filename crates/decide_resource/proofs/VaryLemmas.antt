@@ -1,32 +1,31 @@
 -- What Vary tells a cache.
-use Rattle.std.proofs.Common.{◌≡◌, ◌≢◌, ℕ, ◌<◌, Bool, true, false, List, [], ◌∷◌, ◌++◌, Option, Some, None, refl, sym}
-use Rattle.std.proofs.{Common.{◌∙◌, ap, subst, arith, bytes_eq, lit<}, lemmas.{Bool.cases_Bool, Grind.flat_map-append}}
-use Rattle.std.{proofs.lemmas.{List.Folds.list_any-append, Slice.Eq.bytes_eq-Decides}, specs.Prelude.{◌&&◌, codes}}
-use Rattle.{std.specs.Prelude.{if◌then◌else◌, is_some, nat_lt, length, not}, headers.specs.LineMap.{Field, LineMap}}
-use Rattle.{headers.specs.{LineMap.{fields_of, set_all}, Lines.Line}, rfc_fields.specs.Scan.{pieces, push}}
-use Rattle.{gateway_messages.specs.declared.protocol.Protocol.Protocol, decide_cors.specs.Cache.{Serves, nominates}}
-use Rattle.decide_cors.specs.{Fields.{covers_origin, grant_fields, granted, vary_sent}, Policy.Policy}
 use Rattle.decide_cors.proofs.{SameLemmas.{never_pre, same_by}, VaryLemmas.{nominates-behind, origin_tells}}
-use Rattle.decide_resource.specs.Answers.{AreSame, GivesIf, IsAnswer, IsShared, at_place, content_of, is_admitted}
-use Rattle.decide_resource.specs.{Answers.{response_fields, target_of}, Applies.{applies, is_current, is_guarded}}
-use Rattle.decide_resource.specs.Applies.{is_preflight_request, is_present, is_read, is_unacceptable}
-use Rattle.decide_resource.specs.Applies.{is_unsupported_part, needs_condition, rule, rule_for, takes_parts, takes_type}
-use Rattle.decide_resource.specs.Fields.{depends_on_selection, describes, line_if, metadata_fields, reason_fields}
-use Rattle.decide_resource.specs.{Fields.{selecting, status_of, vary_fields, vary_lines}, Reasons.{IsFirst, stage}}
-use Rattle.decide_resource.specs.{Representations.{are_unacceptable, score}, Requests.Request, Vary.AreAlike}
-use Rattle.decide_resource.specs.declared.{answer.{Answer.Answer, Sends.Sends}, reason.Reason.Reason}
-use Rattle.decide_resource.specs.declared.reason.Reason.TheVariants.{InvalidHost, Preflight, Denied, PartialContent}
-use Rattle.decide_resource.specs.declared.reason.Reason.TheVariants.{Moved, Gone, UnsupportedMediaType}
-use Rattle.decide_resource.specs.declared.reason.Reason.TheVariants.{UnsupportedCoding, NotAcceptable}
-use Rattle.decide_resource.specs.declared.reason.Reason.TheVariants.{PreconditionRequired, Admitted}
-use Rattle.decide_resource.specs.declared.{denied.Denied.Denied as Denial, representation.Negotiation.Negotiation}
-use Rattle.decide_resource.specs.declared.representation.Representation.{Representation}
-use Rattle.decide_resource.specs.declared.{request.RequestContent.RequestContent, resource.Resource.Resource}
+use Rattle.decide_cors.specs.{Cache.{Serves, nominates}, Fields.{covers_origin, grant_fields, granted, vary_sent}}
+use Rattle.{decide_cors.specs.Policy.Policy, decide_preconditions.specs.Responses.IsAnswered}
+use Rattle.decide_preconditions.specs.declared.response.Response.{Response}
 use Rattle.decide_resource.proofs.{AnswerLemmas.gives_same, ChosenLemmas.{same_guard, same_selected}}
 use Rattle.decide_resource.proofs.{OneReasonLemmas.one_reason, PickLemmas.first_alike, SamePlanLemmas.answered}
-use Rattle.decide_resource.proofs.SelectionLemmas.{SelectAlike}
-use Rattle.decide_resource.proofs.{SelectionLemmas.{score_alike, unacceptable_alike}, SharedLemmas.set_all-append}
-use Rattle.decide_preconditions.specs.{Responses.IsAnswered, declared.response.Response.Response}
+use Rattle.decide_resource.proofs.SelectionLemmas.{SelectAlike, score_alike, unacceptable_alike}
+use Rattle.decide_resource.{proofs.SharedLemmas.set_all-append, specs.Answers.{AreSame, GivesIf, IsAnswer, IsShared}}
+use Rattle.decide_resource.specs.Answers.{at_place, content_of, is_admitted, response_fields, target_of}
+use Rattle.decide_resource.specs.Applies.{applies, is_current, is_guarded, is_preflight_request, is_present, is_read}
+use Rattle.decide_resource.specs.Applies.{is_unacceptable, is_unsupported_part, needs_condition, rule, rule_for}
+use Rattle.decide_resource.specs.{Applies.{takes_parts, takes_type}, Fields.{depends_on_selection, describes, line_if}}
+use Rattle.decide_resource.specs.Fields.{metadata_fields, reason_fields, selecting, status_of, vary_fields, vary_lines}
+use Rattle.decide_resource.specs.{Reasons.{IsFirst, stage}, Representations.{are_unacceptable, score}, Requests.Request}
+use Rattle.decide_resource.specs.{Vary.AreAlike, declared.answer.{Answer.Answer, Sends.Sends}}
+use Rattle.decide_resource.specs.declared.{denied.Denied.Denied as Denial, reason.Reason.{Reason, TheVariants.Admitted}}
+use Rattle.decide_resource.specs.declared.reason.Reason.TheVariants.{Denied, Gone, InvalidHost, Moved, NotAcceptable}
+use Rattle.decide_resource.specs.declared.reason.Reason.TheVariants.{PartialContent, PreconditionRequired, Preflight}
+use Rattle.decide_resource.specs.declared.reason.Reason.TheVariants.{UnsupportedCoding, UnsupportedMediaType}
+use Rattle.decide_resource.specs.declared.representation.{Negotiation.Negotiation, Representation.Representation}
+use Rattle.decide_resource.specs.declared.{request.RequestContent.RequestContent, resource.Resource.Resource}
+use Rattle.{gateway_messages.specs.declared.protocol.Protocol.Protocol, headers.specs.LineMap.{Field, LineMap}}
+use Rattle.{headers.specs.{LineMap.{fields_of, set_all}, Lines.Line}, rfc_fields.specs.Scan.{pieces, push}}
+use Rattle.std.proofs.Common.{Bool, List, None, Option, Some, [], ap, arith, bytes_eq, false, lit<, refl, subst, sym}
+use Rattle.std.proofs.{Common.{true, ℕ, ◌++◌, ◌<◌, ◌∙◌, ◌∷◌, ◌≡◌, ◌≢◌}, lemmas.{Bool.cases_Bool, Grind.flat_map-append}}
+use Rattle.std.{proofs.lemmas.{List.Folds.list_any-append, Slice.Eq.bytes_eq-Decides}, specs.Prelude.codes}
+use Rattle.std.specs.Prelude.{if◌then◌else◌, is_some, length, nat_lt, not, ◌&&◌}
 
 -- ---- what Vary names
 

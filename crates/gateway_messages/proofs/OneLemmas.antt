@@ -1,13 +1,12 @@
 -- A message states one framing at most, and a request has one outcome.
-use Rattle.std.proofs.Common.{◌≡◌, ◌⊎◌, ℕ, ◌<◌, ◌^◌, true, false, List, [], ◌∷◌, length, Option, Some, None, refl, sym}
-use Rattle.std.proofs.{Common.{ap, arith, subst, inl, inr, IsTrue, nat_lt, codes}, lemmas.Bool.{cases_Bool, ltb-true}}
-use Rattle.{std.{proofs.lemmas.Bool.lt-ltb, specs.List.list_all}, headers.specs.{LineMap.LineMap, Lines.Line}}
-use Rattle.{headers.specs.Typed.HasLine, rfc_fields.specs.Members.field_members}
-use Rattle.gateway_messages.specs.Framing.{RejectsFraming, States, StatesLength, ends_chunked, codings, first_number}
-use Rattle.gateway_messages.specs.{Framing.{is_chunked, lengths, writes_length}, Hops.{HasHops, HasInvalidHops}}
-use Rattle.gateway_messages.specs.{Hops.{counts_hops, hops_in}, declared.framing.Framing.Framing}
-use Rattle.gateway_messages.specs.declared.framing.Framing.TheVariants.{Unstated, Length, Chunked}
-use Rattle.gateway_messages.specs.declared.{protocol.Protocol.Protocol, rejection.Rejection.Rejection}
+use Rattle.gateway_messages.specs.Framing.{RejectsFraming, States, StatesLength, codings, ends_chunked, first_number}
+use Rattle.gateway_messages.specs.{Framing.{is_chunked, lengths, writes_length}, declared.rejection.Rejection.Rejection}
+use Rattle.{gateway_messages.specs.Hops.{HasHops, HasInvalidHops, counts_hops, hops_in}, headers.specs.Typed.HasLine}
+use Rattle.gateway_messages.specs.declared.framing.Framing.{Framing, TheVariants.{Chunked, Length, Unstated}}
+use Rattle.{gateway_messages.specs.declared.protocol.Protocol.Protocol, rfc_fields.specs.Members.field_members}
+use Rattle.{headers.specs.LineMap.LineMap, std.proofs.Common.{refl, subst, sym, true, ℕ, ◌<◌, ◌^◌, ◌∷◌, ◌≡◌, ◌⊎◌}}
+use Rattle.{headers.specs.Lines.Line, std.{proofs.lemmas.Bool.{cases_Bool, lt-ltb, ltb-true}, specs.List.list_all}}
+use Rattle.std.proofs.Common.{IsTrue, List, None, Option, Some, [], ap, arith, codes, false, inl, inr, length, nat_lt}
 
 pub no_line : (lines : List Line) → HasLine lines → lines ≡ [] → ⊥
 no_line lines h e = let none : length lines ≡ 0 = ap length e in omega arith

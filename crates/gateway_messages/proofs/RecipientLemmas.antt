@@ -1,20 +1,19 @@
 -- To all recipients that know the plain forms, what is forwarded states the same.
-use Rattle.std.proofs.Common.{◌≡◌, ◌≢◌, ℕ, ◌&&◌, not, Bool, true, false, List, [], ◌∷◌, ◌++◌, Option, Some}
-use Rattle.std.proofs.{Common.{None, refl, ◌∙◌, ap, codes, inl, inr, arith}, lemmas.{Bool.cases_Bool, List.append-nil}}
-use Rattle.std.{proofs.lemmas.Slice.Eq.bytes_eq-Decides, specs.Prelude.{bytes_eq, decimal, if◌then◌else◌, nat_lt}}
-use Rattle.{std.specs.{Prelude.{option_map, option_to_list}, List.list_any}, headers.specs.LineMap.LineMap}
-use Rattle.{headers.specs.Lines.Line, gateway_messages.specs.FieldLines.{Field, fields_of, lines_under}}
-use Rattle.gateway_messages.specs.{Forwarding.{Forwards, Message}, declared.framing.Framing.Framing}
-use Rattle.gateway_messages.specs.declared.{gateway.Gateway.Gateway, protocol.Protocol.Protocol}
-use Rattle.gateway_messages.specs.{declared.request.ForwardedRequest.ForwardedRequest, Spellings.dashed}
-use Rattle.gateway_messages.specs.{Trailers.{may_trail, trailer_names}, Framing.{States, coding_line, length_line}}
-use Rattle.gateway_messages.specs.Recipients.{Fits, KnowsPlain, ParsesBelow, Recipient, accepted_by, delimited_by}
-use Rattle.gateway_messages.specs.Recipients.{framing_by, is_within, lines_where, number_below, parse_below, picked_by}
-use Rattle.gateway_messages.specs.Recipients.{server, Spelling, Dash, DashOrMark, DashOrUnderscore, Pick, First, Last}
-use Rattle.gateway_messages.specs.Recipients.{Codings, SomeLine, LastLine, AnyCoding, Precedence, CodingFirst}
-use Rattle.gateway_messages.specs.{Recipients.{LengthFirst, chunked_by, spelled_by}, Requests.{IsForwarded, Request}}
-use Rattle.gateway_messages.{specs.Requests.message_of, proofs.NumberLemmas.number_within-decimal}
-use Rattle.gateway_messages.proofs.{ReceivedLemmas.lines_under-append, SpellingLemmas.{lookalike, unlisted}}
+use Rattle.gateway_messages.proofs.{NumberLemmas.number_within-decimal, ReceivedLemmas.lines_under-append}
+use Rattle.gateway_messages.{proofs.SpellingLemmas.{lookalike, unlisted}, specs.FieldLines.{Field, fields_of}}
+use Rattle.gateway_messages.specs.{FieldLines.lines_under, Forwarding.{Forwards, Message}, Framing.States}
+use Rattle.gateway_messages.specs.{Framing.{coding_line, length_line}, Recipients.{AnyCoding, CodingFirst, Codings}}
+use Rattle.gateway_messages.specs.Recipients.{Dash, DashOrMark, DashOrUnderscore, First, Fits, KnowsPlain, Last}
+use Rattle.gateway_messages.specs.Recipients.{LastLine, LengthFirst, ParsesBelow, Pick, Precedence, Recipient, SomeLine}
+use Rattle.gateway_messages.specs.Recipients.{Spelling, accepted_by, chunked_by, delimited_by, framing_by, is_within}
+use Rattle.gateway_messages.specs.Recipients.{lines_where, number_below, parse_below, picked_by, server, spelled_by}
+use Rattle.gateway_messages.specs.{Requests.{IsForwarded, Request, message_of}, Spellings.dashed, Trailers.may_trail}
+use Rattle.gateway_messages.specs.{Trailers.trailer_names, declared.{framing.Framing.Framing, gateway.Gateway.Gateway}}
+use Rattle.gateway_messages.specs.declared.{protocol.Protocol.Protocol, request.ForwardedRequest.ForwardedRequest}
+use Rattle.{headers.specs.{LineMap.LineMap, Lines.Line}, std.proofs.Common.{Bool, List, None, Option, Some, [], ap}}
+use Rattle.std.proofs.Common.{arith, codes, false, inl, inr, not, refl, true, ℕ, ◌&&◌, ◌++◌, ◌∙◌, ◌∷◌, ◌≡◌, ◌≢◌}
+use Rattle.std.{proofs.lemmas.{Bool.cases_Bool, List.append-nil, Slice.Eq.bytes_eq-Decides}, specs.List.list_any}
+use Rattle.std.specs.Prelude.{bytes_eq, decimal, if◌then◌else◌, nat_lt, option_map, option_to_list}
 
 -- ---- names
 

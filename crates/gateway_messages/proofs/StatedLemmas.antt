@@ -1,16 +1,15 @@
 -- The next gateway delimits the content of what is forwarded as this one did.
-use Rattle.std.proofs.Common.{◌≡◌, ℕ, ◌<◌, ◌^◌, true, List, [], ◌∷◌, refl, sym, ◌∙◌, ap, arith, codes, eq-eqb, map}
-use Rattle.std.proofs.{lemmas.{Bool.{and_from, and_parts, le-leb, ne_eqb}, Fmt.decimal_nonempty}, Math.Bool.or-true}
-use Rattle.{std.specs.{Prelude.{decimal, nat_le, option_to_list}, List.list_all}, headers.specs.LineMap.LineMap}
-use Rattle.{http_header.specs.Token.is_value_byte, headers_syntax.proofs.PlainLemmas.{decimal_plain, is_plain}}
-use Rattle.{headers_syntax.proofs.PlainLemmas.{plain_bounds, trim_piece}, rfc_fields.specs.Grammar.{IsSeparator, comma}}
-use Rattle.rfc_fields.specs.{Grammar.{element_text, is_bare, is_element, Part.Byte}, Scan.Member.Whole}
-use Rattle.rfc_fields.specs.{Laws.ParsesOneWay, Members.{field_members, members, members_of}}
-use Rattle.gateway_messages.specs.{Forwarding.{Forwards, Message}, Framing.{States, StatesLength, coding_line}}
-use Rattle.gateway_messages.specs.{Framing.length_line, Recipients.Fits, declared.framing.Framing.Framing}
-use Rattle.gateway_messages.specs.declared.framing.Framing.TheVariants.{Unstated, Length, Chunked}
+use Rattle.gateway_messages.{proofs.NumberLemmas.number_within-decimal, specs.Forwarding.{Forwards, Message}}
+use Rattle.gateway_messages.specs.{Framing.{States, StatesLength, coding_line, length_line}, Recipients.Fits}
+use Rattle.gateway_messages.specs.declared.framing.Framing.{Framing, TheVariants.{Chunked, Length, Unstated}}
 use Rattle.gateway_messages.specs.declared.{gateway.Gateway.Gateway, protocol.Protocol.{Protocol, TheVariants.Http11}}
-use Rattle.gateway_messages.proofs.NumberLemmas.{number_within-decimal}
+use Rattle.{headers.specs.LineMap.LineMap, headers_syntax.proofs.PlainLemmas.{decimal_plain, is_plain, plain_bounds}}
+use Rattle.{headers_syntax.proofs.PlainLemmas.trim_piece, http_header.specs.Token.is_value_byte}
+use Rattle.rfc_fields.specs.Grammar.{IsSeparator, Part.Byte, comma, element_text, is_bare, is_element}
+use Rattle.rfc_fields.specs.{Laws.ParsesOneWay, Members.{field_members, members, members_of}, Scan.Member.Whole}
+use Rattle.std.proofs.Common.{List, [], ap, arith, codes, eq-eqb, map, refl, sym, true, ℕ, ◌<◌, ◌^◌, ◌∙◌, ◌∷◌, ◌≡◌}
+use Rattle.std.proofs.{Math.Bool.or-true, lemmas.{Bool.{and_from, and_parts, le-leb, ne_eqb}, Fmt.decimal_nonempty}}
+use Rattle.std.specs.{List.list_all, Prelude.{decimal, nat_le, option_to_list}}
 
 -- a text of plain bytes is an element of a list, and so is a decimal
 bytes_text : (s : List ℕ) → element_text (map Byte s) ≡ s

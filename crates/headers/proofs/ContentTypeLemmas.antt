@@ -1,11 +1,9 @@
 -- What the first line says of a media type.
-use Rattle.std.{proofs.Common.{◌≡◌, ℕ, true, List, [], ◌∷◌, Some, subst, sym, ◌∙◌}, specs.Prelude.{Result, Ok, Err}}
-use Rattle.headers_syntax.{specs.DecodesTo.DecodesTo, specs.Lines.{Line, first_line}, specs.Text.is_text}
-use Rattle.headers_syntax.{specs.declared.error.Refused.Refused, specs.declared.error.Refused.TheVariants.Invalid}
-use Rattle.headers_syntax.specs.declared.error.Refused.TheVariants.{Memory}
-use Rattle.headers_mime.{specs.MediaType.{IsMediaType, IsCanonical}, proofs.MimeLemmas.is_canonical-text}
-use Rattle.headers_mime.specs.MimeText.{ReadsMime}
-use Rattle.headers.specs.ContentType.{ReadsType, type_line}
+use Rattle.{headers.specs.ContentType.{ReadsType, type_line}, headers_mime.proofs.MimeLemmas.is_canonical-text}
+use Rattle.headers_mime.specs.{MediaType.{IsCanonical, IsMediaType}, MimeText.ReadsMime}
+use Rattle.headers_syntax.specs.{DecodesTo.DecodesTo, Lines.{Line, first_line}, Text.is_text}
+use Rattle.headers_syntax.specs.declared.error.Refused.{Refused, TheVariants.{Invalid, Memory}}
+use Rattle.std.{proofs.Common.{List, Some, [], subst, sym, true, ℕ, ◌∙◌, ◌∷◌, ◌≡◌}, specs.Prelude.{Err, Ok, Result}}
 
 -- what its reader says of a line that stands first
 pub decodes_first : {E : Type 0} (lines : List Line) (line text : List ℕ) (r : Result (List ℕ) (Refused E))

@@ -1,14 +1,12 @@
 -- A user name and a password, read back.
-use Rattle.std.proofs.Common.{◌≡◌, ◌↔◌, ℕ, zero, suc, ◌-◌, ◌<◌, List, [], ◌∷◌, ◌++◌, Some, length, take, drop}
-use Rattle.std.{proofs.Common.{slice_index, slice_index_or, eq-eqb, refl, sym, ◌∙◌, ap, arith}, specs.Prelude.IsUtf8}
-use Rattle.std.{specs.List.{Contains, prefix_len}, proofs.Math.Seq.get_or-append_seam, proofs.lemmas.Bool.eqb-true}
-use Rattle.std.proofs.lemmas.List.{get_or_append_left, get_or_default, length-append, take_rest}
-use Rattle.base64.specs.GeneralPurpose.{IsBytes}
-use Rattle.headers_authorization.{specs.Base64.base64, specs.Base64Laws.base64-once}
-use Rattle.memchr.specs.Find.{IsFirstByte, is_byte}
-use Rattle.headers_authorization.{specs.Scheme.IsReadBack, specs.Basic.{colon, UserPass, is_space, after_spaces}}
-use Rattle.headers_authorization.specs.Basic.{user_pass, basic_scheme, ReadsBasic, basic_writes}
-use Rattle.headers_authorization.specs.BasicLaws.{HasScheme-basic, basic_encoded}
+use Rattle.{base64.specs.GeneralPurpose.IsBytes, headers_authorization.specs.{Base64.base64, Base64Laws.base64-once}}
+use Rattle.headers_authorization.specs.Basic.{ReadsBasic, UserPass, after_spaces, basic_scheme, basic_writes, colon}
+use Rattle.headers_authorization.specs.{Basic.{is_space, user_pass}, BasicLaws.{HasScheme-basic, basic_encoded}}
+use Rattle.{headers_authorization.specs.Scheme.IsReadBack, memchr.specs.Find.{IsFirstByte, is_byte}}
+use Rattle.std.proofs.Common.{List, Some, [], ap, arith, drop, eq-eqb, length, refl, slice_index, slice_index_or, suc}
+use Rattle.std.proofs.{Common.{sym, take, zero, ℕ, ◌++◌, ◌-◌, ◌<◌, ◌↔◌, ◌∙◌, ◌∷◌, ◌≡◌}, Math.Seq.get_or-append_seam}
+use Rattle.std.proofs.lemmas.{Bool.eqb-true, List.{get_or_append_left, get_or_default, length-append, take_rest}}
+use Rattle.std.specs.{List.{Contains, prefix_len}, Prelude.IsUtf8}
 
 -- what is left from place i on, as a slice's range gives it
 abbrev slice_to_end : List ℕ → ℕ → List ℕ

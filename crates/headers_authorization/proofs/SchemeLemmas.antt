@@ -1,8 +1,7 @@
 -- What follows a scheme in a line.
-use Rattle.std.{proofs.Common.{◌≡◌, ℕ, ◌+◌, List, length, sym, subst, arith}, specs.Str.{IsUtf8, IsCharBoundary}}
-use Rattle.std.proofs.lemmas.Str.{IsCharBoundary-after_ascii}
-use Rattle.headers_syntax.specs.Lines.{Line}
-use Rattle.headers_authorization.specs.Scheme.{HasScheme}
+use Rattle.{headers_authorization.specs.Scheme.HasScheme, headers_syntax.specs.Lines.Line, std.proofs.Common.List}
+use Rattle.std.proofs.{Common.{arith, length, subst, sym, ℕ, ◌+◌, ◌≡◌}, lemmas.Str.IsCharBoundary-after_ascii}
+use Rattle.std.specs.Str.{IsCharBoundary, IsUtf8}
 
 -- a text may be cut after its scheme and the space
 pub IsCharBoundary-after_scheme : (scheme : List ℕ) (line text : Line) → HasScheme scheme line

@@ -1,14 +1,11 @@
 -- Pieces after commas, one row after the other, are the pieces joined once the first comma is cut off.
-use Rattle.std.proofs.Common.{◌≡◌, ℕ, true, nat_lt, min, List, [], ◌∷◌, ◌++◌, length, drop, refl, sym, ◌∙◌, ap, arith}
-use Rattle.std.{proofs.Common.append_assoc, specs.List.{list_all, flat_map, fold}, proofs.lemmas.Bool.and_parts}
-use Rattle.std.{proofs.lemmas.Bool.and_from, proofs.lemmas.Bool.Decides.nat_tests, proofs.lemmas.Grind.flat_map-append}
-use Rattle.std.{proofs.lemmas.List.append-nil, proofs.lemmas.List.Folds.list_all-append}
-use Rattle.std.proofs.lemmas.List.Sums.{AllPass-from_list_all}
-use Rattle.http_header.{specs.FieldValue.IsFieldValue, specs.Token.is_value_byte}
-use Rattle.headers_items.specs.Merge.{merge}
 use Rattle.headers_caching.specs.CacheControl.{Directives, flag_rows, number_rows, print_flag, print_number, printed}
-use Rattle.headers_caching.specs.CacheControlLaws.{behind_commas}
-use Rattle.headers_syntax.proofs.PlainLemmas.{is_plain, is_piece, list_all-weaker}
+use Rattle.{headers_caching.specs.CacheControlLaws.behind_commas, std.proofs.lemmas.List.Sums.AllPass-from_list_all}
+use Rattle.{headers_items.specs.Merge.merge, std.specs.List.{flat_map, fold, list_all}}
+use Rattle.{headers_syntax.proofs.PlainLemmas.{is_piece, is_plain, list_all-weaker}, std.proofs.Common.{◌∙◌, ◌∷◌, ◌≡◌}}
+use Rattle.{http_header.specs.{FieldValue.IsFieldValue, Token.is_value_byte}, std.proofs.lemmas.Grind.flat_map-append}
+use Rattle.std.proofs.Common.{List, [], ap, append_assoc, arith, drop, length, min, nat_lt, refl, sym, true, ℕ, ◌++◌}
+use Rattle.std.proofs.lemmas.{Bool.{Decides.nat_tests, and_from, and_parts}, List.{Folds.list_all-append, append-nil}}
 
 -- the pieces of each row after a text, row by row
 abbrev pub row_by_row : {X : Type 0} → (X → List (List ℕ)) → List ℕ → List X → List ℕ

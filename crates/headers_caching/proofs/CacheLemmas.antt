@@ -1,17 +1,15 @@
 -- What one entry more adds to what entries direct.
-use Rattle.std.proofs.Common.{◌≡◌, ℕ, ◌+◌, ◌<◌, Bool, false, not, ◌||◌, ◌&&◌, ◌==◌, List, [], ◌∷◌, ◌++◌, length, get_or}
-use Rattle.std.proofs.Common.{Option, None, filter, refl, sym, ◌∙◌, ap, inl, inr, arith, slice_index_or}
-use Rattle.std.specs.List.{AllByRecursion, list_any, last_or, before_first, after_first, position_or_len}
-use Rattle.std.{specs.Option.option_and_then, proofs.lemmas.Bool.{cases_Bool, and_left, and_right}}
-use Rattle.std.{proofs.lemmas.Bool.Decides.Decides-eqb, proofs.lemmas.List.drop_all}
-use Rattle.std.{proofs.lemmas.List.Sums.{split_at_first, passes_at_first}, proofs.Math.Bool.or-false}
-use Rattle.std.{proofs.lemmas.List.Folds.{list_any-append, list_any_none}, proofs.lemmas.List.Elements.filter-append}
-use Rattle.http_header.specs.Token.{lowercase}
-use Rattle.headers_syntax.{specs.AsciiCase.same_name, proofs.PartsLemmas.last_or-append}
-use Rattle.headers_caching.specs.CacheControl.{carries, number_in, is_bad_for, is_bad, is_set, last_number, Directives}
-use Rattle.headers_caching.specs.CacheControl.{Steps, directives, next_flag, next_number, flag_rows, number_rows}
-use Rattle.headers_caching.specs.CacheControlLaws.{no_flag, flag_names, same_rows, every, both}
-use Rattle.headers_items.specs.Pairs.{is_equals}
+use Rattle.headers_caching.specs.CacheControl.{Directives, Steps, carries, directives, flag_rows, is_bad, is_bad_for}
+use Rattle.headers_caching.specs.CacheControl.{is_set, last_number, next_flag, next_number, number_in, number_rows}
+use Rattle.headers_caching.specs.CacheControlLaws.{both, every, flag_names, no_flag, same_rows}
+use Rattle.{headers_items.specs.Pairs.is_equals, headers_syntax.proofs.PartsLemmas.last_or-append}
+use Rattle.{headers_syntax.specs.AsciiCase.same_name, http_header.specs.Token.lowercase, std.proofs.Common.{Bool, List}}
+use Rattle.std.proofs.Common.{None, Option, [], ap, arith, false, filter, get_or, inl, inr, length, not, refl}
+use Rattle.std.proofs.Common.{slice_index_or, sym, ℕ, ◌&&◌, ◌++◌, ◌+◌, ◌<◌, ◌==◌, ◌||◌, ◌∙◌, ◌∷◌, ◌≡◌}
+use Rattle.std.proofs.{Math.Bool.or-false, lemmas.Bool.{Decides.Decides-eqb, and_left, and_right, cases_Bool}}
+use Rattle.std.proofs.lemmas.List.{Elements.filter-append, Folds.{list_any-append, list_any_none}, Sums.passes_at_first}
+use Rattle.std.{proofs.lemmas.List.{Sums.split_at_first, drop_all}, specs.List.{AllByRecursion, after_first}}
+use Rattle.std.specs.{List.{before_first, last_or, list_any, position_or_len}, Option.option_and_then}
 
 is_set-more : (flag : List ℕ) (es : List (List ℕ)) (entry : List ℕ)
     → next_flag entry flag (is_set flag es) ≡ is_set flag (es ++ entry ∷ [])

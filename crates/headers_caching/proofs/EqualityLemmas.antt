@@ -1,11 +1,10 @@
 -- Values of `cache-control` are equal exactly if what is written of them is.
-use Rattle.std.proofs.Common.{◌≡◌, ℕ, nat_eq, Bool, true, ◌&&◌, List, [], ◌∷◌, ◌↔◌, IsTrue, Option, Some, None, refl}
-use Rattle.std.proofs.Common.{sym, ◌∙◌, ap}
+use Rattle.headers_caching.specs.CacheControl.{Directives, flag_rows, lines_of_directives, number_rows}
+use Rattle.headers_caching.specs.CacheControlLaws.{FitRows, rows_same, same_by_lines, same_rows}
+use Rattle.std.proofs.Common.{Bool, IsTrue, List, None, Option, Some, [], ap, nat_eq, refl, sym, true, ℕ, ◌&&◌, ◌↔◌}
+use Rattle.std.{proofs.{Common.{◌∙◌, ◌∷◌, ◌≡◌}, lemmas.Bool.Decides.{Decides-and, Decides-eqb}}, specs.Bool.Decides}
+use Rattle.std.specs.{Cmp.booleans_Decides, List.AllByRecursion, Option.option_eq}
 use mathlib.Core.Bool.{beq}
-use Rattle.std.{specs.Bool.Decides, specs.List.AllByRecursion, specs.Cmp.booleans_Decides, specs.Option.option_eq}
-use Rattle.std.proofs.lemmas.Bool.Decides.{Decides-and, Decides-eqb}
-use Rattle.headers_caching.specs.CacheControl.{Directives, flag_rows, number_rows, lines_of_directives}
-use Rattle.headers_caching.specs.CacheControlLaws.{FitRows, same_by_lines, same_rows, rows_same}
 
 same_number : (o p : Option ℕ) → Decides (option_eq nat_eq o p) (o ≡ p)
 same_number None None = (λ _. refl, λ _. refl)

@@ -1,11 +1,9 @@
 -- What `with_line` and `decode` know of the entries and lines that have come.
-use Rattle.std.proofs.Common.{◌≡◌, true, false, ◌||◌, ℕ, List, [], ◌∷◌, ◌++◌, Some, None, refl, sym, ◌∙◌, ap, subst}
-use Rattle.std.{proofs.Common.append_assoc, specs.List.list_any, proofs.lemmas.Bool.or_right}
-use Rattle.std.{proofs.lemmas.List.append-nil, proofs.lemmas.List.Folds.list_any-append}
-use Rattle.std.proofs.lemmas.Grind.{flat_map-append}
-use Rattle.headers_syntax.specs.Lines.{Line}
-use Rattle.headers_items.specs.Entries.{entries, line_entries}
 use Rattle.headers_caching.specs.CacheControl.{Direct, Directives, directives, directives_of, is_bad}
+use Rattle.{headers_items.specs.Entries.{entries, line_entries}, headers_syntax.specs.Lines.Line}
+use Rattle.std.proofs.Common.{List, None, Some, [], ap, append_assoc, false, refl, subst, sym, true, ℕ, ◌++◌, ◌||◌, ◌∙◌}
+use Rattle.std.proofs.{Common.{◌∷◌, ◌≡◌}, lemmas.{Bool.or_right, Grind.flat_map-append, List.Folds.list_any-append}}
+use Rattle.std.{proofs.lemmas.List.append-nil, specs.List.list_any}
 
 -- the entries of both are good
 none_bad : (es fs : List (List ℕ)) → list_any is_bad es ≡ false → list_any is_bad fs ≡ false

@@ -1,15 +1,12 @@
 -- A condition is any tag or its items, however its lines are cut and merged.
-use Rattle.std.proofs.Common.{◌≡◌, ℕ, zero, suc, ◌+◌, ◌<◌, true, List, [], ◌∷◌, ◌++◌, length, drop, get_or, refl, sym}
-use Rattle.std.{proofs.Common.{◌∙◌, ap, subst, arith, length-append, inl, inr}, specs.Prelude.bytes_eq}
-use Rattle.std.{specs.List.slice_range, proofs.lemmas.Bool.cases_Bool, proofs.lemmas.Slice.Eq.bytes_eq-Decides}
-use Rattle.headers_syntax.{specs.Lines.Line, specs.Text.is_text}
-use Rattle.headers_items.{specs.Answers.{SameAnswers, SurvivesCuts, GoesByItems}, specs.CutLaw.AreCuts}
-use Rattle.headers_items.{specs.Merge.merge, specs.Places.{comma, pieces}, specs.Separator.comma_is_separator}
-use Rattle.headers_items.{proofs.AnswerLemmas.same_answers, proofs.CutLemmas.items_cut_at}
-use Rattle.headers_items.proofs.PlacesLemmas.{counting_place_parts}
-use Rattle.headers_core.specs.EntityTagRange.{star, range_of}
-use Rattle.headers_core.specs.declared.entity_tag_range.EntityTagRange.{EntityTagRange}
+use Rattle.headers_core.specs.{EntityTagRange.{range_of, star}, declared.entity_tag_range.EntityTagRange.EntityTagRange}
 use Rattle.headers_core.specs.declared.entity_tag_range.EntityTagRange.TheVariants.{Tags}
+use Rattle.headers_items.proofs.{AnswerLemmas.same_answers, CutLemmas.items_cut_at, PlacesLemmas.counting_place_parts}
+use Rattle.headers_items.specs.{Answers.{GoesByItems, SameAnswers, SurvivesCuts}, CutLaw.AreCuts, Merge.merge}
+use Rattle.{headers_items.specs.{Places.{comma, pieces}, Separator.comma_is_separator}, headers_syntax.specs.Lines.Line}
+use Rattle.{headers_syntax.specs.Text.is_text, std.proofs.Common.{List, [], ap, arith, drop, get_or, inl, inr, length}}
+use Rattle.std.proofs.Common.{length-append, refl, subst, suc, sym, true, zero, ℕ, ◌++◌, ◌+◌, ◌<◌, ◌∙◌, ◌∷◌, ◌≡◌}
+use Rattle.std.{proofs.lemmas.{Bool.cases_Bool, Slice.Eq.bytes_eq-Decides}, specs.{List.slice_range, Prelude.bytes_eq}}
 
 -- a value that is not the star lists its tags
 range_of-tags : (value : List ℕ) → (value ≡ star → ⊥) → range_of value ≡ Tags value

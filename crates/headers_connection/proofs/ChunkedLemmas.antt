@@ -1,15 +1,13 @@
 -- What follows the last comma of a text follows that of its last item too, but for blanks at its ends.
-use Rattle.std.proofs.Common.{◌≡◌, ⊎_elim, ℕ, ◌+◌, ◌-◌, ◌<◌, ◌≤◌, Bool, not, true, false, cond, eqb, All, zero, suc}
-use Rattle.std.proofs.Common.{List, [], ◌∷◌, ◌++◌, map, length, take, drop, get_or, reverse, Option, Some, refl, sym}
-use Rattle.std.{proofs.Common.{◌∙◌, ap, arith, take_at}, specs.List.{after_last, last_or, prefix_len, suffix_len}}
-use Rattle.std.{specs.List.slice_range, proofs.lemmas.Bool.{cases_Bool, cases_lt}, proofs.lemmas.Bool.Decides.nat_tests}
-use Rattle.std.proofs.lemmas.List.{length-append, length-drop, length-reverse, drop-drop, drop-append-le}
-use Rattle.std.proofs.lemmas.List.{take-append-drop, get_or_past, reverse-append, reverse-reverse}
-use Rattle.std.{proofs.lemmas.List.Elements.{All-head, All-tail}, proofs.lemmas.List.Folds.prefix_len-append}
-use Rattle.std.proofs.lemmas.List.Sums.{suffix_len-le-length, suffix_len-take_no}
-use Rattle.headers_syntax.specs.Text.{is_blank, trim, trim_start, trim_end}
-use Rattle.headers_items.{specs.Places.{is_counting_place, pieces}, proofs.PlacesLemmas.counting_place_parts}
-use Rattle.headers_connection.specs.Chunked.{is_comma}
+use Rattle.{headers_connection.specs.Chunked.is_comma, headers_syntax.specs.Text.{is_blank, trim, trim_end, trim_start}}
+use Rattle.headers_items.{proofs.PlacesLemmas.counting_place_parts, specs.Places.{is_counting_place, pieces}}
+use Rattle.std.proofs.Common.{All, Bool, List, Option, Some, [], ap, arith, cond, drop, eqb, false, get_or, length, map}
+use Rattle.std.proofs.Common.{not, refl, reverse, suc, sym, take, take_at, true, zero, ℕ, ⊎_elim, ◌++◌, ◌+◌, ◌-◌, ◌<◌}
+use Rattle.std.proofs.{Common.{◌∙◌, ◌∷◌, ◌≡◌, ◌≤◌}, lemmas.List.{reverse-append, reverse-reverse, take-append-drop}}
+use Rattle.std.proofs.lemmas.{Bool.{Decides.nat_tests, cases_Bool, cases_lt}, List.Folds.prefix_len-append}
+use Rattle.std.proofs.lemmas.List.{Elements.{All-head, All-tail}, Sums.{suffix_len-le-length, suffix_len-take_no}}
+use Rattle.std.proofs.lemmas.List.{drop-append-le, drop-drop, get_or_past, length-append, length-drop, length-reverse}
+use Rattle.std.specs.List.{after_last, last_or, prefix_len, slice_range, suffix_len}
 
 abbrev no_comma : ℕ → Bool
 no_comma b = not (is_comma b)

@@ -1,10 +1,8 @@
 -- What a list of tags has beside a tag.
-use Rattle.std.proofs.Common.{◌≡◌, ℕ, zero, suc, ◌<◌, false, true, List, [], ◌∷◌, get_or, ◌↔◌, refl, sym, subst, arith}
-use Rattle.std.specs.Prelude.{Any}
-use Rattle.headers_syntax.{specs.Text.is_text, specs.EntityTag.{TagParts, IsTag, AreTags}}
-use Rattle.headers_syntax.proofs.EntityTagLemmas.{parts_unique}
-use Rattle.headers_items.{specs.Places.items, proofs.PlacesLemmas.items-no_text}
-use Rattle.headers_core.{specs.EntityTagRange.HasItem, proofs.TagItemLemmas.items_tag}
+use Rattle.{headers_core.{proofs.TagItemLemmas.items_tag, specs.EntityTagRange.HasItem}, std.specs.Prelude.Any}
+use Rattle.{headers_items.{proofs.PlacesLemmas.items-no_text, specs.Places.items}, headers_syntax.specs.Text.is_text}
+use Rattle.headers_syntax.{proofs.EntityTagLemmas.parts_unique, specs.EntityTag.{AreTags, IsTag, TagParts}}
+use Rattle.std.proofs.Common.{List, [], arith, false, get_or, refl, subst, suc, sym, true, zero, ℕ, ◌<◌, ◌↔◌, ◌∷◌, ◌≡◌}
 
 -- what holds of some element of a list of one, holds of it
 one_any : (P : List ℕ → Type 0) (y : List ℕ) → Any P (y ∷ []) ↔ P y

@@ -1,9 +1,7 @@
 -- What a header's encoding shape decodes, the header decodes.
-use Rattle.std.{proofs.Common.{List, Option}, specs.Prelude.Err}
-use Rattle.http_header.specs.FieldValue.{FieldValue}
-use Rattle.headers_syntax.{specs.Lines.Line, specs.DecodesTo.DecodesTo, specs.OfLines.OfLines}
-use Rattle.headers_syntax.{proofs.OfLinesLemmas.OfLines-weaker, specs.declared.error.Refused.Refused}
-use Rattle.headers_syntax.specs.declared.error.Refused.TheVariants.{Invalid, Memory}
+use Rattle.headers_syntax.{proofs.OfLinesLemmas.OfLines-weaker, specs.{DecodesTo.DecodesTo, Lines.Line}}
+use Rattle.headers_syntax.specs.{OfLines.OfLines, declared.error.Refused.{Refused, TheVariants.{Invalid, Memory}}}
+use Rattle.{http_header.specs.FieldValue.FieldValue, std.{proofs.Common.{List, Option}, specs.Prelude.Err}}
 
 module _ {V F E : Type 0} (form : V → F) (reads : List Line → F → Type 0) where
   refused_along : (lines : List Line) (r : Refused E) → DecodesTo {V = F} {E = E} reads lines (Err r)

@@ -1,12 +1,11 @@
 -- A tag as the one item of a list.
-use Rattle.std.proofs.Common.{◌≡◌, ℕ, ◌-◌, Bool, true, false, List, [], ◌∷◌, ◌++◌, length, take, map, refl, sym, ◌∙◌}
-use Rattle.std.{proofs.Common.{ap, subst, arith}, specs.List.{list_all, suffix_len, onto_first}}
-use Rattle.std.{proofs.lemmas.Bool.{and_parts, and_right, ne_eqb}, proofs.lemmas.List.{reverse-append, take_all}}
-use Rattle.std.proofs.lemmas.List.Sums.{list_all-from_AllPass}
-use Rattle.headers_syntax.{specs.Text.{quote, is_blank, is_text, trim, trim_end, is_quote}, specs.EntityTag.is_tag_byte}
-use Rattle.headers_syntax.specs.EntityTag.{TagParts, tag_text, IsTag}
-use Rattle.headers_items.{specs.Places.{items, pieces, places}, specs.Separator.comma_is_separator}
-use Rattle.headers_items.proofs.CutLemmas.{cuts, cuts_quote, cuts_byte, items_cuts, pieces_cuts}
+use Rattle.headers_items.{proofs.CutLemmas.{cuts, cuts_byte, cuts_quote, items_cuts, pieces_cuts}, specs.Places.items}
+use Rattle.headers_items.specs.{Places.{pieces, places}, Separator.comma_is_separator}
+use Rattle.headers_syntax.specs.{EntityTag.{IsTag, TagParts, is_tag_byte, tag_text}, Text.{is_blank, is_quote, is_text}}
+use Rattle.{headers_syntax.specs.Text.{quote, trim, trim_end}, std.proofs.Common.{Bool, List, [], ap, arith, false}}
+use Rattle.std.proofs.Common.{length, map, refl, subst, sym, take, true, ℕ, ◌++◌, ◌-◌, ◌∙◌, ◌∷◌, ◌≡◌}
+use Rattle.std.proofs.lemmas.{Bool.{and_parts, and_right, ne_eqb}, List.{Sums.list_all-from_AllPass, reverse-append}}
+use Rattle.std.{proofs.lemmas.List.take_all, specs.List.{list_all, onto_first, suffix_len}}
 
 -- a byte of a tag is no quote
 tag_byte_no_quote : (b : ℕ) → is_tag_byte b ≡ true → is_quote b ≡ false

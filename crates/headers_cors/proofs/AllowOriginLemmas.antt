@@ -1,13 +1,10 @@
 -- What is no origin is not allowed, but for the star.
-use Rattle.std.{proofs.Common.{◌≡◌, List, ℕ, Err}, specs.Prelude.codes}
-use Rattle.headers_syntax.{specs.Lines.Line, specs.declared.error.Refused.Refused}
-use Rattle.headers_syntax.specs.declared.error.Refused.TheVariants.{Invalid, Memory}
-use Rattle.headers_hosts.{specs.OneLine.LineDecodesTo, specs.Origin.IsOriginLine, specs.OriginParts.IsOriginText}
-use Rattle.headers_hosts.specs.declared.origin.Origin.{Origin}
-use Rattle.headers_cors.specs.AccessControlAllowOrigin.{IsKindLine, IsAllowedLine, IsKindText, IsAllowedText}
+use Rattle.headers_cors.specs.AccessControlAllowOrigin.{IsAllowedLine, IsAllowedText, IsKindLine, IsKindText}
 use Rattle.headers_cors.specs.declared.access_control_allow_origin.AccessControlAllowOrigin.{AccessControlAllowOrigin}
-use Rattle.headers_cors.specs.declared.access_control_allow_origin.OriginOrAny.{OriginOrAny}
-use Rattle.headers_cors.specs.declared.access_control_allow_origin.OriginOrAny.TheVariants.{One, Any}
+use Rattle.headers_cors.specs.declared.access_control_allow_origin.OriginOrAny.{OriginOrAny, TheVariants.{Any, One}}
+use Rattle.headers_hosts.specs.{OneLine.LineDecodesTo, OriginParts.IsOriginText, declared.origin.Origin.Origin}
+use Rattle.{headers_hosts.specs.Origin.IsOriginLine, std.{proofs.Common.{Err, List, ℕ, ◌≡◌}, specs.Prelude.codes}}
+use Rattle.headers_syntax.specs.{Lines.Line, declared.error.Refused.{Refused, TheVariants.{Invalid, Memory}}}
 
 no_kind_text : (text : List ℕ) → ((origin : Origin) → ¬ (IsOriginText text origin)) → (kind : OriginOrAny)
     → ¬ (IsKindText text kind)

@@ -1,7 +1,6 @@
 -- Texts that a formatter writes one after the other, under any width and precision.
-use Rattle.std.proofs.Common.{◌≡◌, ℕ, List, [], ◌∷◌, ◌++◌, sym, ap, subst, ◌∙◌}
-use Rattle.std.{proofs.lemmas.List.Folds.concat-append, specs.Fmt.{HasWrittenStyled, WritesInCalls}, specs.List.FoldsTo}
-use Rattle.std.{specs.List.concat, specs.declared.fmt.Formatter.Formatter}
+use Rattle.std.proofs.{Common.{List, [], ap, subst, sym, ℕ, ◌++◌, ◌∙◌, ◌∷◌, ◌≡◌}, lemmas.List.Folds.concat-append}
+use Rattle.std.specs.{Fmt.{HasWrittenStyled, WritesInCalls}, List.{FoldsTo, concat}, declared.fmt.Formatter.Formatter}
 
 module _ {W : Type 0} (took : W → List ℕ → W → Type 0) where
   in_turn : (u : W) (xs : List (List ℕ)) (v : W) (ys : List (List ℕ)) (w : W) → FoldsTo took u xs v

@@ -1,10 +1,8 @@
 -- Decoding by the one line that a header reads.
-use Rattle.std.proofs.Common.{◌≡◌, List, Option, Some, None, Result, Ok, Err, subst}
-use Rattle.http_header.specs.FieldValue.{FieldValue}
-use Rattle.headers_syntax.{specs.Lines.Line, specs.OfLines.OfLines, proofs.OfLinesLemmas.OfLines-weaker}
-use Rattle.headers_syntax.{specs.DecodesTo.DecodesTo, specs.declared.error.Refused.Refused}
-use Rattle.headers_syntax.specs.declared.error.Refused.TheVariants.{Invalid, Memory}
-use Rattle.headers_hosts.specs.OneLine.{ReadsLine, LineDecodesTo}
+use Rattle.{headers_hosts.specs.OneLine.{LineDecodesTo, ReadsLine}, headers_syntax.proofs.OfLinesLemmas.OfLines-weaker}
+use Rattle.headers_syntax.specs.{DecodesTo.DecodesTo, declared.error.Refused.{Refused, TheVariants.{Invalid, Memory}}}
+use Rattle.{headers_syntax.specs.{Lines.Line, OfLines.OfLines}, http_header.specs.FieldValue.FieldValue}
+use Rattle.std.proofs.Common.{Err, List, None, Ok, Option, Result, Some, subst, ◌≡◌}
 
 module _ {V E : Type 0} (pick : List Line → Option Line) (Reads : Line → V → Type 0) where
   by_line : (lines : List Line) (line : Line) (r : Result V (Refused E)) → pick lines ≡ Some line

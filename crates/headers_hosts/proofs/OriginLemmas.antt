@@ -1,22 +1,17 @@
 -- Origins out of a URI, and lines that hold them.
-use Rattle.std.proofs.Common.{◌≡◌, ℕ, true, false, not, List, ◌++◌, Option, Some}
-use Rattle.std.proofs.Common.{None, is_some, IsTrue, refl, sym, ◌∙◌, ap, subst, arith}
-use Rattle.std.specs.Prelude.{codes, bytes_eq, option_copied, slice_index, Result, Ok, Err}
+use Rattle.{headers_hosts.specs.OneLine.LineDecodesTo, http_uri.specs.ByteClasses.{is_authority_byte, is_scheme_byte}}
+use Rattle.{headers_hosts.specs.Origin.{IsKindLine, IsOriginLine, tuple_text}, std.proofs.Common.{ℕ, ◌++◌, ◌∙◌, ◌≡◌}}
+use Rattle.headers_hosts.specs.{OriginLaws.{all_by_index, uri_once}, OriginParts.{IsOriginText, IsUriKind, IsUriOrigin}}
+use Rattle.headers_hosts.specs.declared.origin.{Origin.Origin, OriginOrNull.{OriginOrNull, TheVariants.{Null, Tuple}}}
+use Rattle.{headers_syntax.proofs.TextLemmas.IsFieldValue-from_kept, std.proofs.lemmas.Slice.Eq.bytes_eq-Decides}
+use Rattle.headers_syntax.specs.declared.error.Refused.{Refused, TheVariants.{Invalid, Memory}}
+use Rattle.{http_header.specs.{FieldValue.IsFieldValue, Token.is_value_byte}, std.proofs.lemmas.Bool.Decides.nat_tests}
+use Rattle.http_uri.specs.{Grammar.{IsAuthority, IsScheme, path_of, query_of}, declared.uri.Uri.Uri}
+use Rattle.http_uri.specs.Uri.{Spells, SpellsNone, has_path, uri_authority, uri_data, uri_path, uri_query, uri_scheme}
+use Rattle.std.proofs.Common.{IsTrue, List, None, Option, Some, ap, arith, false, is_some, not, refl, subst, sym, true}
+use Rattle.std.proofs.lemmas.{Bool.or_right, List.{Elements.{All-append, All-weaker}, Sums.AllPass-from_list_all}}
+use Rattle.std.specs.Prelude.{Err, Ok, Result, bytes_eq, codes, option_copied, slice_index}
 use denote.Ref.{Bor}
-use Rattle.std.{proofs.lemmas.Bool.or_right, proofs.lemmas.Bool.Decides.nat_tests}
-use Rattle.std.{proofs.lemmas.Slice.Eq.bytes_eq-Decides, proofs.lemmas.List.Elements.{All-weaker, All-append}}
-use Rattle.std.proofs.lemmas.List.Sums.{AllPass-from_list_all}
-use Rattle.http_header.{specs.Token.is_value_byte, specs.FieldValue.IsFieldValue}
-use Rattle.http_uri.{specs.declared.uri.Uri.Uri, specs.ByteClasses.{is_scheme_byte, is_authority_byte}}
-use Rattle.http_uri.{specs.Grammar.{IsScheme, IsAuthority, path_of, query_of}, specs.Uri.{uri_scheme, uri_authority}}
-use Rattle.http_uri.specs.Uri.{uri_data, uri_path, uri_query, has_path, Spells, SpellsNone}
-use Rattle.headers_syntax.{proofs.TextLemmas.IsFieldValue-from_kept, specs.declared.error.Refused.Refused}
-use Rattle.headers_syntax.specs.declared.error.Refused.TheVariants.{Invalid, Memory}
-use Rattle.headers_hosts.{specs.OneLine.LineDecodesTo, specs.Origin.{IsKindLine, IsOriginLine, tuple_text}}
-use Rattle.headers_hosts.{specs.OriginLaws.{all_by_index, uri_once}, specs.OriginParts.{IsUriKind, IsUriOrigin}}
-use Rattle.headers_hosts.{specs.OriginParts.IsOriginText, specs.declared.origin.Origin.Origin}
-use Rattle.headers_hosts.specs.declared.origin.OriginOrNull.{OriginOrNull}
-use Rattle.headers_hosts.specs.declared.origin.OriginOrNull.TheVariants.{Tuple, Null}
 
 authority_byte_value : (b : ℕ) → IsTrue (is_authority_byte b) → is_value_byte b ≡ true
 authority_byte_value b h = grind (arith, nat_tests)

@@ -1,15 +1,12 @@
 -- What the code finds of the parts of a line.
-use Rattle.std.proofs.Common.{◌≡◌, ℕ, List, [], ◌∷◌, map, filter, Option, Some, None, refl, sym, ◌∙◌, ap}
-use Rattle.std.proofs.Common.{inl, inr, nat_lt, arith}
+use Rattle.headers_lists.specs.{SecurityParts.age_of, StrictTransportSecurity.{age_in, carries_age, names_subdomains}}
+use Rattle.{headers_syntax.specs.{Lines.only_line, Text.trim}, std.proofs.Common.{List, None, Option, Some, [], ap}}
+use Rattle.std.proofs.Common.{arith, filter, inl, inr, map, nat_lt, refl, sym, ℕ, ◌∙◌, ◌∷◌, ◌≡◌}
+use Rattle.std.proofs.lemmas.{Bool.{Decides.nat_tests, cases_Bool}, Grind.common_steps, Iterator.YieldsList}
+use Rattle.std.{proofs.lemmas.{Iterator.items_from_drains, List.{map-id, nil_from_length}}, specs.Iterator.ActsAsOnTwo}
+use Rattle.std.specs.{Iterator.Runs.{IsReduceRun, Run, WholeRun, YieldsRun}, List.{count_by, filter_map, fold}}
+use Rattle.std.specs.{List.{list_any, reduce}, Option.{MatchOption, option_and_then, option_flatten}}
 use denote.Param.Members.{Mut}
-use Rattle.std.{specs.Iterator.ActsAsOnTwo, specs.Iterator.Runs.{Run, WholeRun, YieldsRun, IsReduceRun}}
-use Rattle.std.{specs.List.{filter_map, fold, reduce, list_any, count_by}, specs.Option.{MatchOption, option_and_then}}
-use Rattle.std.{specs.Option.option_flatten, proofs.lemmas.Bool.cases_Bool, proofs.lemmas.Bool.Decides.nat_tests}
-use Rattle.std.{proofs.lemmas.Grind.common_steps, proofs.lemmas.Iterator.{YieldsList, items_from_drains}}
-use Rattle.std.proofs.lemmas.List.{map-id, nil_from_length}
-use Rattle.headers_syntax.{specs.Lines.only_line, specs.Text.trim}
-use Rattle.headers_lists.specs.StrictTransportSecurity.{names_subdomains, carries_age, age_in}
-use Rattle.headers_lists.specs.SecurityParts.{age_of}
 
 -- what `reduce` gives of a chain
 module _ {A S F : Type 0} {steps : S → Option A → S → Type 0} (g : Mut F (A × (A × Unit {0})) A) {f : F}

@@ -1,17 +1,13 @@
 -- What inserts and appends leave under each name.
-use Rattle.std.proofs.Common.{◌≡◌, ◌≢◌, ℕ, ◌<◌, List, [], ◌∷◌, ◌++◌, length, Option, Some, None, MatchOption, Result}
-use Rattle.std.proofs.Common.{Ok, Err, OnErr, IfErr, IsOk, ◌≤◌, bytes_eq, sym, ◌∙◌, ap, inl, inr, arith}
-use Rattle.std.{proofs.lemmas.Bool.cases_Bool, proofs.lemmas.List.{map-append, length-map}}
-use Rattle.std.proofs.lemmas.Slice.Eq.{bytes_eq-Decides}
-use Rattle.http_header.{specs.FieldValue.FieldValue, specs.HeaderMap.{Entries, get_all, index_of, ContainsKey}}
-use Rattle.http_header.{specs.HeaderMap.RefusesAppend, specs.Places.{IsAt, IsAbsent}}
-use Rattle.http_header.proofs.PlacesLemmas.{ContainsKey-from_entry, index_of_cases}
-use Rattle.headers_syntax.specs.Lines.{Line, lines_of}
-use Rattle.headers_map.{specs.LineMap.{lines_at, put}, specs.InsertErrors.{IsProperBeginning, KeepsOrBegins}}
-use Rattle.headers_map.{specs.InsertErrors.{IsRefusedPut, IsRefusedStep}, specs.declared.encoded.Encoded.Encoded}
-use Rattle.headers_map.specs.declared.insert.InsertError.{InsertError}
-use Rattle.headers_map.{specs.declared.insert.InsertError.TheVariants.Full, specs.declared.steps.Step.Step}
-use Rattle.headers_map.specs.declared.steps.Step.TheVariants.{Put}
+use Rattle.headers_map.specs.InsertErrors.{IsProperBeginning, IsRefusedPut, IsRefusedStep, KeepsOrBegins}
+use Rattle.{headers_map.specs.LineMap.{lines_at, put}, headers_syntax.specs.Lines.{Line, lines_of}}
+use Rattle.{headers_map.specs.declared.encoded.Encoded.Encoded, std.proofs.lemmas.List.{length-map, map-append}}
+use Rattle.headers_map.specs.declared.{insert.InsertError.{InsertError, TheVariants.Full}, steps.Step.TheVariants.Put}
+use Rattle.{headers_map.specs.declared.steps.Step.Step, std.proofs.lemmas.{Bool.cases_Bool, Slice.Eq.bytes_eq-Decides}}
+use Rattle.http_header.{proofs.PlacesLemmas.{ContainsKey-from_entry, index_of_cases}, specs.Places.{IsAbsent, IsAt}}
+use Rattle.http_header.specs.{FieldValue.FieldValue, HeaderMap.{ContainsKey, Entries, RefusesAppend, get_all, index_of}}
+use Rattle.std.proofs.Common.{Err, IfErr, IsOk, List, MatchOption, None, Ok, OnErr, Option, Result, Some, [], ap, arith}
+use Rattle.std.proofs.Common.{bytes_eq, inl, inr, length, sym, ℕ, ◌++◌, ◌<◌, ◌∙◌, ◌∷◌, ◌≡◌, ◌≢◌, ◌≤◌}
 
 -- a name that has a value is in the map
 pub ContainsKey-from_values : (m : Entries FieldValue) (name : List ℕ) → 0 < length (get_all m name)

@@ -1,13 +1,11 @@
 -- What a typed read answers after steps.
-use Rattle.std.proofs.Common.{◌≡◌, ℕ, List, [], ◌∷◌, Option, Some, None, Result, Ok, Err, refl, sym, ◌∙◌, subst, arith}
-use Rattle.std.specs.Option.{option_map_or}
-use Rattle.headers_syntax.{specs.Lines.Line, specs.HeaderLaws.HeaderLaws, specs.declared.error.Refused.Refused}
-use Rattle.headers_syntax.specs.declared.error.Refused.TheVariants.{Invalid, Memory}
-use Rattle.headers_map.{specs.LineMap.{LineMap, put, run, last_step, lines_left}, specs.Typed.{HasLine, IsTypedRead}}
-use Rattle.headers_map.{specs.Canonical.IsCanonicalRead, specs.LastRead.{IsEncodingOf, GivesSame, GivesLines}}
-use Rattle.headers_map.{specs.LastRead.{IsLastRead, IsLastCanonical}, specs.declared.encoded.Encoded.Encoded}
-use Rattle.headers_map.{specs.declared.steps.Step.Step, specs.declared.steps.Step.TheVariants.{Put, Remove}}
-use Rattle.headers_map.proofs.StepLemmas.{run-last, put-own, HasLine-last_put}
+use Rattle.headers_map.{proofs.StepLemmas.{HasLine-last_put, put-own, run-last}, specs.Canonical.IsCanonicalRead}
+use Rattle.headers_map.specs.LastRead.{GivesLines, GivesSame, IsEncodingOf, IsLastCanonical, IsLastRead}
+use Rattle.headers_map.specs.{LineMap.{LineMap, last_step, lines_left, put, run}, Typed.{HasLine, IsTypedRead}}
+use Rattle.headers_map.specs.declared.{encoded.Encoded.Encoded, steps.Step.{Step, TheVariants.{Put, Remove}}}
+use Rattle.headers_syntax.specs.{HeaderLaws.HeaderLaws, declared.error.Refused.{Refused, TheVariants.{Invalid, Memory}}}
+use Rattle.{headers_syntax.specs.Lines.Line, std.specs.Option.option_map_or}
+use Rattle.std.proofs.Common.{Err, List, None, Ok, Option, Result, Some, [], arith, refl, subst, sym, ℕ, ◌∙◌, ◌∷◌, ◌≡◌}
 
 no_line : (lines : List Line) → HasLine lines → lines ≡ [] → ⊥
 no_line [] has e = omega (arith, has)

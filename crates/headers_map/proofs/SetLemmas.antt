@@ -1,16 +1,13 @@
 -- Fields that are set, as steps.
-use Rattle.std.proofs.Common.{◌≡◌, ◌≢◌, ℕ, List, [], ◌∷◌, ◌++◌, length, bytes_eq, nat_lt, if◌then◌else◌, true, refl}
-use Rattle.std.{proofs.Common.{sym, ◌∙◌, ap, subst, inl, inr, arith}, specs.List.All, proofs.lemmas.Bool.cases_Bool}
-use Rattle.std.{proofs.lemmas.Bool.ltb-false, proofs.lemmas.List.{map-append, length-map, nil_from_length}}
-use Rattle.std.proofs.lemmas.List.Elements.{All-head, All-tail}
-use Rattle.http_header.{specs.FieldValue.FieldValue, specs.HeaderMap.Entries}
-use Rattle.headers_syntax.specs.Lines.{Line, lines_of}
-use Rattle.headers_map.{specs.InsertErrors.{AppliesPart, IsRefusedStep}, specs.LineMap.{LineMap, lines_at, run}}
-use Rattle.headers_map.specs.LineMap.{after_step, set, set_all, field_of, fields_of, setting, settings, touches}
-use Rattle.headers_map.specs.LineMap.{lines_left, step_name, IsFieldOfOther, IsOfOther}
-use Rattle.headers_map.{specs.declared.encoded.Encoded.Encoded, specs.declared.steps.ApplyError.ApplyError}
-use Rattle.headers_map.{specs.declared.steps.Step.Step, specs.declared.steps.Step.TheVariants.{Put, Remove}}
-use Rattle.headers_map.proofs.StepLemmas.{after_step-touches, AppliesPart-from_split, run-step}
+use Rattle.{headers_map.proofs.StepLemmas.{AppliesPart-from_split, after_step-touches, run-step}, std.specs.List.All}
+use Rattle.headers_map.specs.{InsertErrors.{AppliesPart, IsRefusedStep}, declared.steps.Step.TheVariants.{Put, Remove}}
+use Rattle.headers_map.specs.LineMap.{IsFieldOfOther, IsOfOther, LineMap, after_step, field_of, fields_of, lines_at}
+use Rattle.headers_map.specs.LineMap.{lines_left, run, set, set_all, setting, settings, step_name, touches}
+use Rattle.headers_map.specs.declared.{encoded.Encoded.Encoded, steps.{ApplyError.ApplyError, Step.Step}}
+use Rattle.{headers_syntax.specs.Lines.{Line, lines_of}, http_header.specs.{FieldValue.FieldValue, HeaderMap.Entries}}
+use Rattle.std.proofs.Common.{List, [], ap, arith, bytes_eq, if◌then◌else◌, inl, inr, length, nat_lt, refl, subst, sym}
+use Rattle.std.proofs.{Common.{true, ℕ, ◌++◌, ◌∙◌, ◌∷◌, ◌≡◌, ◌≢◌}, lemmas.Bool.{cases_Bool, ltb-false}}
+use Rattle.std.proofs.lemmas.List.{Elements.{All-head, All-tail}, length-map, map-append, nil_from_length}
 
 -- the step that sets a field leaves the field's lines at its name
 after_step-setting : (m : LineMap) (e : Encoded) (name : List ℕ)

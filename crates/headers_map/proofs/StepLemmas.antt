@@ -1,18 +1,15 @@
 -- A run, step by step, and by the last step that touches a name.
-use Rattle.std.proofs.Common.{◌≡◌, ◌≢◌, ℕ, Bool, true, false, Some, List, [], ◌∷◌, ◌++◌, ◌&&◌, bytes_eq, nat_lt}
-use Rattle.std.proofs.Common.{if◌then◌else◌, reverse, length, refl, sym, ◌∙◌, ap, subst, inl, inr, arith, ◌<◌, take}
-use Rattle.std.{proofs.Common.length-append, specs.Prelude.find, specs.List.All, specs.Option.option_map_or}
-use Rattle.std.{proofs.lemmas.Bool.{cases_Bool, lt-ltb}, proofs.lemmas.Grind.reverse_onto}
-use Rattle.std.{proofs.lemmas.List.reverse-reverse, proofs.lemmas.List.Elements.{All-head, All-tail}}
-use Rattle.std.{proofs.lemmas.Option.slice_get_read, proofs.Math.Seq.{take-append_seam, get_or-append_seam}}
-use Rattle.std.proofs.lemmas.Slice.Eq.{bytes_eq-Decides}
-use Rattle.http_header.{specs.FieldValue.FieldValue, specs.HeaderMap.{Entries, get_all}}
-use Rattle.headers_syntax.specs.Lines.{Line, lines_of}
-use Rattle.headers_map.specs.LineMap.{LineMap, lines_at, put, remove, run, last, after_step, touches, lines_left}
-use Rattle.headers_map.{specs.LineMap.{last_step, IsOfOther}, specs.Typed.HasLine, specs.InsertErrors.AppliesPart}
-use Rattle.headers_map.{specs.InsertErrors.IsRefusedStep, specs.declared.steps.ApplyError.ApplyError}
-use Rattle.headers_map.{specs.declared.encoded.Encoded.Encoded, specs.declared.steps.Step.Step}
-use Rattle.headers_map.specs.declared.steps.Step.TheVariants.{Put, Remove}
+use Rattle.headers_map.specs.{InsertErrors.{AppliesPart, IsRefusedStep}, LineMap.{IsOfOther, LineMap, after_step, last}}
+use Rattle.headers_map.specs.{LineMap.{last_step, lines_at, lines_left, put, remove, run, touches}, Typed.HasLine}
+use Rattle.headers_map.specs.declared.{encoded.Encoded.Encoded, steps.{ApplyError.ApplyError, Step.Step}}
+use Rattle.{headers_map.specs.declared.steps.Step.TheVariants.{Put, Remove}, headers_syntax.specs.Lines.Line}
+use Rattle.{headers_syntax.specs.Lines.lines_of, http_header.specs.{FieldValue.FieldValue, HeaderMap.Entries}}
+use Rattle.{http_header.specs.HeaderMap.get_all, std.proofs.Common.{Bool, List, Some, [], ap, arith, bytes_eq, false}}
+use Rattle.std.proofs.Common.{if◌then◌else◌, inl, inr, length, length-append, nat_lt, refl, reverse, subst, sym, take}
+use Rattle.std.proofs.{Common.{true, ℕ, ◌&&◌, ◌++◌, ◌<◌, ◌∙◌, ◌∷◌, ◌≡◌, ◌≢◌}, Math.Seq.get_or-append_seam}
+use Rattle.std.proofs.{Math.Seq.take-append_seam, lemmas.{Bool.{cases_Bool, lt-ltb}, Grind.reverse_onto}}
+use Rattle.std.proofs.lemmas.{List.{Elements.{All-head, All-tail}, reverse-reverse}, Option.slice_get_read}
+use Rattle.std.{proofs.lemmas.Slice.Eq.bytes_eq-Decides, specs.{List.All, Option.option_map_or, Prelude.find}}
 
 -- a step changes the lines at a name only if it touches it
 pub after_step-touches : (m : LineMap) (step : Step) (name : List ℕ)

@@ -1,12 +1,10 @@
 -- What the iterator over a name's values tells of its lines.
-use Rattle.std.{proofs.Common.{◌≡◌, true, List, Option, Some, None, is_some, Err, arith}, specs.Iterator.YieldsFirstRef}
+use Rattle.{headers_map.specs.Typed.{HasLine, IsTypedRead}, headers_syntax.proofs.OfLinesLemmas.OfLines-all}
+use Rattle.headers_syntax.{proofs.OfLinesLemmas.shown_value, specs.{DecodesTo.DecodesTo, Lines.{Line, lines_of}}}
+use Rattle.headers_syntax.specs.{OfLines.OfLines, declared.error.Refused.{Refused, TheVariants.{Invalid, Memory}}}
+use Rattle.{http_header.specs.FieldValue.FieldValue, std.proofs.Common.{Err, List, None, Option, Some, arith, is_some}}
+use Rattle.std.{proofs.Common.{true, ◌≡◌}, specs.Iterator.YieldsFirstRef}
 use denote.Ref.{Bor}
-use Rattle.http_header.specs.FieldValue.{FieldValue}
-use Rattle.headers_syntax.{specs.Lines.{Line, lines_of}, specs.OfLines.OfLines, proofs.OfLinesLemmas.OfLines-all}
-use Rattle.headers_syntax.{proofs.OfLinesLemmas.shown_value, specs.DecodesTo.DecodesTo}
-use Rattle.headers_syntax.{specs.declared.error.Refused.Refused, specs.declared.error.Refused.TheVariants.Invalid}
-use Rattle.headers_syntax.specs.declared.error.Refused.TheVariants.{Memory}
-use Rattle.headers_map.specs.Typed.{HasLine, IsTypedRead}
 
 -- the steps of a `ValueIter`
 abbrev pub value_steps : List FieldValue → Option (Bor FieldValue) → List FieldValue → Type 0

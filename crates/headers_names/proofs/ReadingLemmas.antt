@@ -1,11 +1,10 @@
 -- What an item reads as, and the values of a list by its first item.
-use Rattle.std.proofs.Common.{◌≡◌, ◌⊎◌, ℕ, ◌<◌, ◌≤◌, Bool, true, false, cond, List, [], ◌∷◌, length, Some, None, refl}
-use Rattle.std.proofs.Common.{sym, ◌∙◌, ap, subst, arith, inl, inr, leb, is_some, ⊎_elim}
-use Rattle.std.proofs.lemmas.Bool.{cases_Bool, cases_lt, and_parts, and_from, ltb-true, leb-true}
-use Rattle.std.{proofs.lemmas.Bool.Decides.nat_tests, proofs.lemmas.List.Sums.AllPass-from_list_all}
-use Rattle.std.proofs.lemmas.List.Sums.{list_all-from_AllPass, take_while-cons}
-use Rattle.http_header.{specs.Token.{IsToken, is_token_byte, lowercase}, specs.FieldName.{IsFieldName, IsHeaderName}}
-use Rattle.headers_names.specs.ListItem.{Reading, is_token, name_of, method_of, leading_values, names, ReadsAsItself}
+use Rattle.headers_names.specs.ListItem.{Reading, ReadsAsItself, is_token, leading_values, method_of, name_of, names}
+use Rattle.http_header.specs.{FieldName.{IsFieldName, IsHeaderName}, Token.{IsToken, is_token_byte, lowercase}}
+use Rattle.std.proofs.Common.{Bool, List, None, Some, [], ap, arith, cond, false, inl, inr, is_some, leb, length, refl}
+use Rattle.std.proofs.Common.{subst, sym, true, ℕ, ⊎_elim, ◌<◌, ◌∙◌, ◌∷◌, ◌≡◌, ◌≤◌, ◌⊎◌}
+use Rattle.std.proofs.lemmas.Bool.{Decides.nat_tests, and_from, and_parts, cases_Bool, cases_lt, leb-true, ltb-true}
+use Rattle.std.proofs.lemmas.List.Sums.{AllPass-from_list_all, list_all-from_AllPass, take_while-cons}
 
 pub is_token-from : (item : List ℕ) → is_token item ≡ true → IsToken item
 is_token-from item e =

@@ -1,21 +1,18 @@
 -- Tokens that are joined in a list are its items.
-use Rattle.std.proofs.Common.{◌≡◌, ◌≢◌, ℕ, ◌-◌, true, false, cond, List, [], ◌∷◌, ◌++◌, length, map, Option, None}
-use Rattle.std.proofs.Common.{is_some, Result, Ok, Err, IfOk, IsTrue, refl, sym, ◌∙◌, ap, subst, arith}
-use Rattle.std.specs.List.{All, flat_map, take_while, list_all, prefix_len, suffix_len, count_by}
-use Rattle.std.{proofs.Math.Seq.take-length, proofs.lemmas.Bool.and_from, proofs.lemmas.List.Sums.suffix_len_is}
-use Rattle.std.{proofs.lemmas.List.Sums.{sum_by-cons, take_while-cons}, proofs.lemmas.List.Elements.All-tail}
-use Rattle.std.{specs.Iterator.Drains, specs.Vec.Iter.{into_iter_items, into_iter_len, into_iter_steps}}
-use Rattle.std.{specs.declared.vec.IntoIter.IntoIter, proofs.lemmas.Iterator.items_from_drains}
-use Rattle.std.{proofs.lemmas.Iterator.Adapters.YieldsList-from_vec, proofs.lemmas.List.map-id}
-use Rattle.http_header.{specs.FieldValue.FieldValue, specs.Token.{IsToken, is_token_byte, AllPass}}
-use Rattle.http_header.proofs.TokenLemmas.{IsVisibleAscii-from_token}
-use Rattle.headers_syntax.{specs.Text.{is_blank, is_text, trim, is_quote}, specs.Lines.lines_of}
+use Rattle.headers_items.proofs.{CutLemmas.IsMerged-from, ItemsLemmas.items_last, PlacesLemmas.counting_place_other}
+use Rattle.headers_items.specs.{CutLaw.{EvenButLast, IsMerged, MergesItems}, ItemsState.NoCut, Merge.merge}
+use Rattle.headers_items.specs.{Places.{comma, is_even, items, pieces, places}, Separator.comma_is_separator}
+use Rattle.headers_names.specs.ListItem.{IsListOf, Lists, ListsValues, Reading, ReadsAsItself, leading_values, values}
 use Rattle.headers_syntax.proofs.TextLemmas.{is_text-from_visible, token_no_blank, token_no_quote}
-use Rattle.headers_items.{specs.Places.{is_even, comma, places, pieces, items}, specs.ItemsState.NoCut}
-use Rattle.headers_items.{specs.CutLaw.{EvenButLast, IsMerged, MergesItems}, specs.Merge.merge}
-use Rattle.headers_items.{specs.Separator.comma_is_separator, proofs.CutLemmas.IsMerged-from}
-use Rattle.headers_items.{proofs.ItemsLemmas.items_last, proofs.PlacesLemmas.counting_place_other}
-use Rattle.headers_names.specs.ListItem.{Reading, values, leading_values, ReadsAsItself, IsListOf, ListsValues, Lists}
+use Rattle.headers_syntax.specs.{Lines.lines_of, Text.{is_blank, is_quote, is_text, trim}}
+use Rattle.http_header.{proofs.TokenLemmas.IsVisibleAscii-from_token, specs.{FieldValue.FieldValue, Token.AllPass}}
+use Rattle.{http_header.specs.Token.{IsToken, is_token_byte}, std.proofs.Common.{Err, IfOk, IsTrue, List, None, Ok}}
+use Rattle.std.proofs.Common.{Option, Result, [], ap, arith, cond, false, is_some, length, map, refl, subst, sym, true}
+use Rattle.std.proofs.{Common.{ℕ, ◌++◌, ◌-◌, ◌∙◌, ◌∷◌, ◌≡◌, ◌≢◌}, Math.Seq.take-length, lemmas.Bool.and_from}
+use Rattle.std.proofs.lemmas.{Iterator.{Adapters.YieldsList-from_vec, items_from_drains}, List.Elements.All-tail}
+use Rattle.std.{proofs.lemmas.List.{Sums.{suffix_len_is, sum_by-cons, take_while-cons}, map-id}, specs.Iterator.Drains}
+use Rattle.std.specs.List.{All, count_by, flat_map, list_all, prefix_len, suffix_len, take_while}
+use Rattle.std.specs.{Vec.Iter.{into_iter_items, into_iter_len, into_iter_steps}, declared.vec.IntoIter.IntoIter}
 
 -- a byte of a token is no comma
 no_comma : (b : ℕ) → IsTrue (is_token_byte b) → b ≢ comma

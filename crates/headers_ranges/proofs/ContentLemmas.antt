@@ -1,10 +1,9 @@
 -- What the readers of a content range find, and what is printed of one.
-use Rattle.std.proofs.Common.{◌≡◌, true, false, Option, None, ap, ◌∙◌, refl, sym, subst, cond, ◌∷◌, ◌++◌, append_assoc}
-use Rattle.std.specs.Option.{option_and_then}
-use Rattle.http_header.{specs.FieldValue.IsFieldValue, proofs.TokenLemmas.IsFieldValue-from_visible}
-use Rattle.headers_syntax.{specs.Lines.Line, specs.Text.is_text, proofs.TextLemmas.visible-from_is_text}
 use Rattle.headers_ranges.specs.ContentBytes.{ContentBytes, FitsContent, content_bytes, content_text, in_bytes}
-use Rattle.headers_ranges.{specs.ContentRangeLaws.content_plain, specs.Cut.cut}
+use Rattle.{headers_ranges.specs.{ContentRangeLaws.content_plain, Cut.cut}, std.specs.Option.option_and_then}
+use Rattle.headers_syntax.{proofs.TextLemmas.visible-from_is_text, specs.{Lines.Line, Text.is_text}}
+use Rattle.http_header.{proofs.TokenLemmas.IsFieldValue-from_visible, specs.FieldValue.IsFieldValue}
+use Rattle.std.proofs.Common.{None, Option, ap, append_assoc, cond, false, refl, subst, sym, true, ◌++◌, ◌∙◌, ◌∷◌, ◌≡◌}
 
 -- no text
 pub no_content : (line : Line) → is_text line ≡ false → None ≡ content_bytes line

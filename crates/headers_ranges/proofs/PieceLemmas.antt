@@ -1,16 +1,14 @@
 -- A step of a walk over the pieces of a text.
-use Rattle.std.proofs.Common.{◌≡◌, ℕ, ◌+◌, ◌<◌, ◌-◌, true, ◌==◌, List, [], ◌∷◌, length, take, drop, reverse, get_or}
-use Rattle.std.{proofs.Common.{Option, Some, None, refl, ◌∙◌, ap, arith}, specs.Str.IsTrimAscii}
-use Rattle.std.{specs.Char.is_ascii_whitespace, specs.List.{prefix_len, suffix_len, position_or_len}}
-use Rattle.std.{proofs.lemmas.Bool.Decides.nat_tests, proofs.lemmas.List.{get_or-reverse, length-reverse}}
-use Rattle.std.{proofs.lemmas.List.take-append-drop, proofs.lemmas.List.Sums.{prefix_len-le-length, prefix_len_is}}
-use Rattle.std.proofs.lemmas.List.Sums.{prefix_len_passes, prefix_len_stops, fails_before_first, AllPass-from_list_all}
-use Rattle.std.{proofs.lemmas.List.Splits.{slice_split_first, slice_split_none}, proofs.lemmas.Str.Ascii.trim_ascii_is}
-use Rattle.std.specs.Option.{option_zip, option_and_then}
-use Rattle.http_header.specs.Token.{is_visible_or_blank}
-use Rattle.headers_syntax.{specs.Text.{is_text, is_blank, trim}, proofs.TextLemmas.list_all-parts}
-use Rattle.headers_ranges.{specs.ByteRanges.{Spec, half, pieces, spec_of}, specs.Cut.cut, specs.CutLaws.FindsCut}
-use Rattle.headers_ranges.specs.CutLaws.{cut_finds}
+use Rattle.headers_ranges.specs.{ByteRanges.{Spec, half, pieces, spec_of}, Cut.cut, CutLaws.{FindsCut, cut_finds}}
+use Rattle.headers_syntax.{proofs.TextLemmas.list_all-parts, specs.Text.{is_blank, is_text, trim}}
+use Rattle.{http_header.specs.Token.is_visible_or_blank, std.proofs.Common.{List, None, Option, Some, [], ap, arith}}
+use Rattle.std.proofs.Common.{drop, get_or, length, refl, reverse, take, true, ℕ, ◌+◌, ◌-◌, ◌<◌, ◌==◌, ◌∙◌, ◌∷◌, ◌≡◌}
+use Rattle.std.proofs.lemmas.{Bool.Decides.nat_tests, List.Splits.{slice_split_first, slice_split_none}}
+use Rattle.std.proofs.lemmas.List.Sums.{AllPass-from_list_all, fails_before_first, prefix_len-le-length, prefix_len_is}
+use Rattle.std.proofs.lemmas.List.{Sums.{prefix_len_passes, prefix_len_stops}, get_or-reverse, length-reverse}
+use Rattle.std.{proofs.lemmas.{List.take-append-drop, Str.Ascii.trim_ascii_is}, specs.Char.is_ascii_whitespace}
+use Rattle.std.specs.{List.{position_or_len, prefix_len, suffix_len}, Option.{option_and_then, option_zip}}
+use Rattle.std.specs.Str.{IsTrimAscii}
 
 -- ---- pieces
 

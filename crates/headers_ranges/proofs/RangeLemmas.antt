@@ -1,18 +1,16 @@
 -- What a spec gives has just the positions that it covers; and what is printed of a range is one.
-use Rattle.std.proofs.Common.{◌≡◌, ℕ, zero, suc, ◌+◌, ◌-◌, ◌<◌, ◌≤◌, ◌↔◌, true, ◌&&◌, ◌==◌, nat_lt}
-use Rattle.std.proofs.Common.{nat_le, List, [], ◌∷◌, length, get_or, Option, Some, None, min, MatchOption, refl}
-use Rattle.std.proofs.Common.{sym, ◌∙◌, ap, subst, arith, false, inl, inr, ◌⊎◌, ⊎_elim, All, Any}
+use Rattle.headers_ranges.specs.ByteRanges.{ByteRange, Covers, GivesCovered, IsWithin, LiesIn, Names, Spec, bytes_unit}
+use Rattle.headers_ranges.specs.ByteRanges.{clipped, gives, is_range_line, pieces, range_between, spec_of}
+use Rattle.headers_syntax.{proofs.TextLemmas.visible-from_is_text, specs.Text.is_text}
+use Rattle.http_header.{proofs.TokenLemmas.IsFieldValue-from_visible, specs.FieldValue.IsFieldValue}
+use Rattle.std.proofs.Common.{All, Any, List, MatchOption, None, Option, Some, [], ap, arith, false, get_or, inl, inr}
+use Rattle.std.proofs.Common.{length, min, nat_le, nat_lt, refl, subst, suc, sym, true, zero, ℕ, ⊎_elim, ◌&&◌, ◌+◌, ◌-◌}
+use Rattle.std.proofs.{Common.{◌<◌, ◌==◌, ◌↔◌, ◌∙◌, ◌∷◌, ◌≡◌, ◌≤◌, ◌⊎◌}, lemmas.Bool.{and_from, and_parts, cases_Bool}}
+use Rattle.std.proofs.lemmas.Bool.{eqb-false, eqb-true, false≢true, le-leb, leb-true, lt-ltb, ltb-true}
+use Rattle.std.proofs.lemmas.List.{Elements.{All-cons, All-nil}, Splits.length-slice_split, Sums.count_by-le-length}
+use Rattle.std.{proofs.lemmas.Str.Pattern.starts_text, specs.List.{cons_option, filter_map, starts_with}}
+use Rattle.std.specs.{Option.IsSome, Prelude.nat_eq, Str.Pattern.{FindsTextPrefix, StripsPrefix}}
 use denote.Ref.{Bor}
-use Rattle.std.{specs.List.{filter_map, cons_option, starts_with}, specs.Option.IsSome}
-use Rattle.std.{specs.Str.Pattern.{FindsTextPrefix, StripsPrefix}, specs.Prelude.nat_eq, proofs.lemmas.Bool.cases_Bool}
-use Rattle.std.proofs.lemmas.Bool.{and_parts, and_from, leb-true, ltb-true, le-leb, lt-ltb, eqb-true, eqb-false}
-use Rattle.std.{proofs.lemmas.Bool.false≢true, proofs.lemmas.Str.Pattern.starts_text}
-use Rattle.std.{proofs.lemmas.List.Elements.{All-nil, All-cons}, proofs.lemmas.List.Splits.length-slice_split}
-use Rattle.std.proofs.lemmas.List.Sums.{count_by-le-length}
-use Rattle.http_header.{specs.FieldValue.IsFieldValue, proofs.TokenLemmas.IsFieldValue-from_visible}
-use Rattle.headers_syntax.{specs.Text.is_text, proofs.TextLemmas.visible-from_is_text}
-use Rattle.headers_ranges.specs.ByteRanges.{bytes_unit, is_range_line, Spec, ByteRange, gives, clipped, range_between}
-use Rattle.headers_ranges.specs.ByteRanges.{Covers, Names, LiesIn, IsWithin, GivesCovered, pieces, spec_of}
 
 -- ---- one spec
 

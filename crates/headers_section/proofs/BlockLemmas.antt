@@ -1,12 +1,10 @@
 -- A text that is printed block by block.
-use Rattle.std.proofs.Common.{◌≡◌, ℕ, ◌+◌, ◌<◌, ◌≤◌, ◌||◌, Bool, false, List, [], ◌∷◌, ◌++◌, length, take, get_or}
-use Rattle.std.proofs.Common.{flat_map, Option, Some, None, is_none, option_map, refl, sym, ◌∙◌, ap, subst}
-use Rattle.std.proofs.{Math.Bool.or-false, lemmas.List.Concat.flat_map-append, lemmas.List.Folds.list_any-append}
-use Rattle.std.proofs.lemmas.List.{append-nil, map-append, take_more, take_all}
-use Rattle.std.proofs.lemmas.List.Elements.{All-nil, All-push, All-weaker}
-use Rattle.std.specs.List.{list_any}
-use Rattle.headers.specs.Lines.{Line}
-use Rattle.headers_section.specs.CanonicalText.{Block, IsBlock, block_text, HasBlocks}
+use Rattle.{headers.specs.Lines.Line, headers_section.specs.CanonicalText.{Block, HasBlocks, IsBlock, block_text}}
+use Rattle.std.proofs.Common.{Bool, List, None, Option, Some, [], ap, false, flat_map, get_or, is_none, length}
+use Rattle.std.proofs.Common.{option_map, refl, subst, sym, take, ℕ, ◌++◌, ◌+◌, ◌<◌, ◌||◌, ◌∙◌, ◌∷◌, ◌≡◌, ◌≤◌}
+use Rattle.std.proofs.{Math.Bool.or-false, lemmas.List.{Concat.flat_map-append, Elements.{All-nil, All-push}}}
+use Rattle.std.proofs.lemmas.List.{Elements.All-weaker, Folds.list_any-append, append-nil, map-append, take_all}
+use Rattle.std.{proofs.lemmas.List.take_more, specs.List.list_any}
 
 HasBlocks-none : (lines : List ℕ → List Line) → HasBlocks lines [] [] false
 HasBlocks-none lines = record { blocks = []; in_order = refl; each = All-nil _; text_is = refl; refused_is = refl }

@@ -1,21 +1,16 @@
 -- Where a field is cut, and what that makes of a line.
-use Rattle.std.proofs.Common.{◌≡◌, ℕ, suc, ◌+◌, ◌<◌, ◌≤◌, true, false, IsTrue, List, ◌∷◌, ◌++◌, length, take, drop}
-use Rattle.std.proofs.Common.{get_or, nat_lt, nat_le, refl, sym, ◌∙◌, ap, subst, inl, inr, arith, All}
-use Rattle.std.proofs.{lemmas.Bool.cases_Bool, lemmas.Bool.Decides.nat_tests, lemmas.List.Elements.All-weaker}
-use Rattle.std.proofs.{lemmas.List.Splits.slice_split_at, lemmas.List.Sums.list_all-from_AllPass}
-use Rattle.std.proofs.lemmas.List.{get_or_at, append_cancel_left, length-append, length-take-le, take-take}
-use Rattle.std.specs.Prelude.{◌↔◌, Result, Ok, Err, OnOk, IsErrOf}
-use Rattle.std.specs.List.{list_all, slice_range, slice_split}
-use Rattle.bytes.proofs.Ranges.{drop-take_less}
-use Rattle.memchr.specs.Find.{NoneBefore, Nowhere, Passes, is_byte}
-use Rattle.http_header.specs.{declared.name.HeaderNameError.HeaderNameError}
-use Rattle.http_header.specs.{declared.name.HeaderNameError.TheVariants.Invalid, Token.token_test, Token.is_token_byte}
-use Rattle.http_header.specs.{Token.lowercase, FieldName.IsFieldName, FieldName.is_field_name, FieldValue.FieldValue}
-use Rattle.http_header.specs.{FieldValue.IsFieldValue, FieldValue.plain_value}
-use Rattle.http_header.proofs.TokenLemmas.{IsFieldName-from_test}
-use Rattle.headers.specs.{Lines.Line, Text.trim}
-use Rattle.headers_section.specs.Section.{Field, IsField, IsNoField}
-use Rattle.headers_section.proofs.SectionLemmas.{split_at_place, none_before}
+use Rattle.{bytes.proofs.Ranges.drop-take_less, headers.specs.{Lines.Line, Text.trim}}
+use Rattle.headers_section.{proofs.SectionLemmas.{none_before, split_at_place}, specs.Section.{Field, IsField}}
+use Rattle.{headers_section.specs.Section.IsNoField, http_header.proofs.TokenLemmas.IsFieldName-from_test}
+use Rattle.http_header.specs.{FieldName.{IsFieldName, is_field_name}, FieldValue.{FieldValue, IsFieldValue}}
+use Rattle.http_header.specs.{FieldValue.plain_value, Token.{is_token_byte, lowercase, token_test}}
+use Rattle.http_header.specs.declared.name.HeaderNameError.{HeaderNameError, TheVariants.Invalid}
+use Rattle.{memchr.specs.Find.{NoneBefore, Nowhere, Passes, is_byte}, std.proofs.Common.{All, IsTrue, List, ap, arith}}
+use Rattle.std.proofs.Common.{drop, false, get_or, inl, inr, length, nat_le, nat_lt, refl, subst, suc, sym, take, true}
+use Rattle.std.proofs.{Common.{ℕ, ◌++◌, ◌+◌, ◌<◌, ◌∙◌, ◌∷◌, ◌≡◌, ◌≤◌}, lemmas.Bool.{Decides.nat_tests, cases_Bool}}
+use Rattle.std.proofs.lemmas.List.{Elements.All-weaker, Splits.slice_split_at, Sums.list_all-from_AllPass}
+use Rattle.std.proofs.lemmas.List.{append_cancel_left, get_or_at, length-append, length-take-le, take-take}
+use Rattle.std.specs.{List.{list_all, slice_range, slice_split}, Prelude.{Err, IsErrOf, Ok, OnOk, Result, ◌↔◌}}
 
 test-from_IsFieldName : (bytes : List ℕ) → IsFieldName bytes → is_field_name bytes ≡ true
 unfolding is_token_byte

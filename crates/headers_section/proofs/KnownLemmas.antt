@@ -1,9 +1,8 @@
 -- Blocks of names that some headers don't have.
-use Rattle.std.proofs.Common.{◌≡◌, ◌≢◌, ◌++◌, Bool, List, [], ◌∷◌, ℕ, Result, IfOk, sym, subst}
-use Rattle.std.{proofs.lemmas.Bool.false_from_ne_true, proofs.lemmas.Result.IfOk-weaker}
-use Rattle.std.{proofs.lemmas.Slice.Eq.bytes_eq-Decides, specs.Prelude.{bytes_eq, false, MatchBool}}
-use Rattle.headers.specs.Lines.{Line}
-use Rattle.headers_section.{specs.KnownHeaders.KnownHeader, specs.CanonicalText.{Block, IsBlockAmong, IsTypedBlock}}
+use Rattle.{headers.specs.Lines.Line, headers_section.specs.CanonicalText.{Block, IsBlockAmong, IsTypedBlock}}
+use Rattle.{headers_section.specs.KnownHeaders.KnownHeader, std.proofs.Common.{Bool, IfOk, List, Result, [], subst}}
+use Rattle.std.proofs.{Common.{sym, ℕ, ◌++◌, ◌∷◌, ◌≡◌, ◌≢◌}, lemmas.{Bool.false_from_ne_true, Result.IfOk-weaker}}
+use Rattle.std.{proofs.lemmas.Slice.Eq.bytes_eq-Decides, specs.Prelude.{MatchBool, bytes_eq, false}}
 
 -- no header has the name
 abbrev pub IsNoneOf : List KnownHeader → List ℕ → Type 0

@@ -1,18 +1,14 @@
 -- The names of fields at their first appearance, and what a map to which the fields were appended has under a name.
-use Rattle.std.proofs.Common.{◌≡◌, ℕ, ◌<◌, ◌||◌, Bool, true, false, not, List, [], ◌∷◌, ◌++◌, length, map, filter, All}
-use Rattle.std.proofs.Common.{bytes_eq, if◌then◌else◌, refl, sym, ◌∙◌, ap, subst, inl, inr, arith}
-use Rattle.std.{proofs.Math.Bool.{or-false, or_assoc}, proofs.lemmas.Bool.cases_Bool}
-use Rattle.std.{proofs.lemmas.Map.Views.any-filter_same, proofs.lemmas.Slice.Eq.bytes_eq-Decides}
-use Rattle.std.proofs.lemmas.List.{append-nil, append_assoc, map-append, get_or_default}
-use Rattle.std.proofs.lemmas.List.Elements.{filter-append, All-nil, All-cons, All-filter, All-weaker}
-use Rattle.std.{proofs.lemmas.List.Folds.{list_any_at, Any-from_list_any}, specs.List.list_any}
-use Rattle.http_header.{specs.FieldValue.FieldValue, specs.HeaderMap.{Entries, get_all, append, append_all}}
-use Rattle.http_header.{specs.HeaderMap.{ContainsKey, RefusesAppend}, proofs.HeaderMapLemmas.get_all-append_same}
-use Rattle.http_header.{proofs.HeaderMapLemmas.get_all-append_other, proofs.PlacesLemmas.ContainsKey-from_entry}
-use Rattle.http_header.proofs.PlacesLemmas.{entry_from_ContainsKey}
-use Rattle.headers.specs.Lines.{Line, lines_of}
-use Rattle.headers_section.{specs.Section.{Field, FillsMap}, specs.CanonicalText.{names, lines_under}}
-use Rattle.headers_section.specs.CanonicalText.{first_appearances}
+use Rattle.{headers.specs.Lines.{Line, lines_of}, std.{proofs.Math.Bool.{or-false, or_assoc}, specs.List.list_any}}
+use Rattle.headers_section.specs.{CanonicalText.{first_appearances, lines_under, names}, Section.{Field, FillsMap}}
+use Rattle.http_header.{proofs.HeaderMapLemmas.{get_all-append_other, get_all-append_same}, specs.FieldValue.FieldValue}
+use Rattle.http_header.proofs.PlacesLemmas.{ContainsKey-from_entry, entry_from_ContainsKey}
+use Rattle.http_header.specs.HeaderMap.{ContainsKey, Entries, RefusesAppend, append, append_all, get_all}
+use Rattle.std.proofs.Common.{All, Bool, List, [], ap, arith, bytes_eq, false, filter, if◌then◌else◌, inl, inr, length}
+use Rattle.std.proofs.Common.{map, not, refl, subst, sym, true, ℕ, ◌++◌, ◌<◌, ◌||◌, ◌∙◌, ◌∷◌, ◌≡◌}
+use Rattle.std.proofs.lemmas.{Bool.cases_Bool, List.Folds.{Any-from_list_any, list_any_at}, Slice.Eq.bytes_eq-Decides}
+use Rattle.std.proofs.lemmas.List.Elements.{All-cons, All-filter, All-nil, All-weaker, filter-append}
+use Rattle.std.proofs.lemmas.{List.{append-nil, append_assoc, get_or_default, map-append}, Map.Views.any-filter_same}
 
 -- the list has the name
 abbrev has : List ℕ → List (List ℕ) → Bool

@@ -1,15 +1,13 @@
 -- Fields that are read from the front of a section, put into a map, and listed by name.
-use Rattle.std.proofs.Common.{◌≡◌, ℕ, List, [], ◌∷◌, ◌++◌, refl, sym, ◌∙◌, ap, subst, append_assoc, arith}
-use Rattle.std.proofs.{lemmas.List.append-nil, lemmas.List.Elements.Contains-append_right}
-use Rattle.std.specs.Prelude.{Option, Some, None, is_some, true, false, IfSome, IfNone}
-use Rattle.http_header.specs.FieldValue.{FieldValue}
-use Rattle.http_header.specs.HeaderMap.{Entries, append, append_all, ContainsKey, RefusesAppend}
-use Rattle.headers.specs.Lines.{Line}
-use Rattle.headers_section.specs.Section.{Field, section, IsField, AreFields, IsNoField, HasOnlyFields, HasNoField}
-use Rattle.headers_section.specs.Section.{Holds, FillsMap, HasTooManyFields}
-use Rattle.headers_section.specs.CanonicalText.{names, first_appearances, ListsNames}
-use Rattle.headers_section.proofs.NameLemmas.{append_all-push, in_order_more, FillsMap-from_refusal}
-use Rattle.headers_section.proofs.RoomLemmas.{AreFields-once, fits_none, fits_more}
+use Rattle.{headers.specs.Lines.Line, headers_section.proofs.NameLemmas.{FillsMap-from_refusal, append_all-push}}
+use Rattle.headers_section.proofs.{NameLemmas.in_order_more, RoomLemmas.{AreFields-once, fits_more, fits_none}}
+use Rattle.headers_section.specs.{CanonicalText.{ListsNames, first_appearances, names}, Section.{AreFields, Field}}
+use Rattle.headers_section.specs.Section.{FillsMap, HasNoField, HasOnlyFields, HasTooManyFields, Holds, IsField}
+use Rattle.{headers_section.specs.Section.{IsNoField, section}, http_header.specs.FieldValue.FieldValue}
+use Rattle.http_header.specs.HeaderMap.{ContainsKey, Entries, RefusesAppend, append, append_all}
+use Rattle.std.proofs.Common.{List, [], ap, append_assoc, arith, refl, subst, sym, ℕ, ◌++◌, ◌∙◌, ◌∷◌, ◌≡◌}
+use Rattle.std.{proofs.lemmas.List.{Elements.Contains-append_right, append-nil}, specs.Prelude.{IfNone, IfSome, None}}
+use Rattle.std.specs.Prelude.{Option, Some, false, is_some, true}
 
 -- what is said of an option that is none, and of one that is some
 pub IfNone-at_none : {X P : Type 0} (o : Option X) → is_some o ≡ false → IfNone o P → P

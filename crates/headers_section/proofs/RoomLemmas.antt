@@ -1,10 +1,8 @@
 -- Fields for which a map has room.
-use Rattle.std.proofs.Common.{◌≡◌, ℕ, List, [], ◌∷◌, ◌++◌, ◌⊎◌, ⊎_elim, inl, inr, refl, sym, ◌∙◌, ap}
-use Rattle.http_header.specs.{Token.lowercase, FieldValue.FieldValue, FieldValue.plain_value}
-use Rattle.http_header.specs.HeaderMap.{Entries, append_all, RefusesAppend}
-use Rattle.headers.specs.{Lines.Line, Text.trim}
-use Rattle.headers_section.specs.Section.{Field, IsField, AreFields, FillsMap}
-use Rattle.headers_section.proofs.FieldLemmas.{names_have_none, parts_once}
+use Rattle.{headers.specs.{Lines.Line, Text.trim}, headers_section.proofs.FieldLemmas.{names_have_none, parts_once}}
+use Rattle.{headers_section.specs.Section.{AreFields, Field, FillsMap, IsField}, http_header.specs.Token.lowercase}
+use Rattle.http_header.specs.{FieldValue.{FieldValue, plain_value}, HeaderMap.{Entries, RefusesAppend, append_all}}
+use Rattle.std.proofs.Common.{List, [], ap, inl, inr, refl, sym, ℕ, ⊎_elim, ◌++◌, ◌∙◌, ◌∷◌, ◌≡◌, ◌⊎◌}
 
 -- an item in the middle of a list leaves it not empty
 not_empty : {A : Type 0} (first : List A) (next : A) (later : List A) → ¬ ([] ≡ first ++ next ∷ later)

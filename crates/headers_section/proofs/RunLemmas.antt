@@ -1,9 +1,8 @@
 -- What a run knows of the input that it read whole.
-use Rattle.std.proofs.Common.{◌≡◌, ℕ, ◌≤◌, Bool, List, [], ◌++◌, length, Option, inr, refl, subst}
-use Rattle.std.proofs.{KnownBytes.Consumes-all, lemmas.Option.IfSome_then}
-use Rattle.std.specs.{Prelude.IfSome, Io.KnownBytes.Consumes, Io.KnownBytes.IsAtEnd, Io.KnownBytes.Appends}
-use Rattle.headers_section.specs.{Section.input_limit, Section.HasTooManyFields, CanonicalText.IsCanonicalText}
-use Rattle.headers_section.specs.{Answer.WroteText, Answer.BeganText}
+use Rattle.headers_section.specs.{Answer.{BeganText, WroteText}, CanonicalText.IsCanonicalText}
+use Rattle.{headers_section.specs.Section.{HasTooManyFields, input_limit}, std.proofs.Common.{Bool, List, Option, []}}
+use Rattle.std.proofs.{Common.{inr, length, refl, subst, ℕ, ◌++◌, ◌≡◌, ◌≤◌}, KnownBytes.Consumes-all}
+use Rattle.std.{proofs.lemmas.Option.IfSome_then, specs.{Io.KnownBytes.{Appends, Consumes, IsAtEnd}, Prelude.IfSome}}
 
 -- what holds of the bytes that were read up to the end, holds of the input
 read_whole : (had left : Option (List ℕ)) (input : List ℕ) → Consumes had left input → IsAtEnd left

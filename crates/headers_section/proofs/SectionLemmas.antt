@@ -1,14 +1,11 @@
 -- The lines of an input, one after the other.
-use Rattle.std.proofs.Common.{◌≡◌, ℕ, ◌+◌, ◌-◌, ◌<◌, ◌≤◌, ◌==◌, false, List, [], ◌∷◌, ◌++◌, length, take, drop, map}
-use Rattle.std.proofs.Common.{get_or, refl, sym, ◌∙◌, ap, subst, inl, inr, arith, All}
-use Rattle.std.proofs.lemmas.Bool.{cases_Bool, false_from_ne_true}
-use Rattle.std.proofs.lemmas.List.{take-append-drop, take-take, drop_more, get_or-take, length-take-le}
-use Rattle.std.proofs.{lemmas.List.Sums.take_while-cons, lemmas.List.Elements.All-from_get_or}
-use Rattle.std.proofs.lemmas.List.Splits.{slice_split_at, slice_split_none}
-use Rattle.std.specs.{List.slice_split, List.take_while, Prelude.slice_index}
-use Rattle.memchr.specs.Find.{NoneBefore, Nowhere, Passes, is_byte}
-use Rattle.headers.specs.Lines.{Line}
-use Rattle.headers_section.specs.Section.{without_return, is_newline, is_filled, input_lines, section}
+use Rattle.{headers.specs.Lines.Line, std.proofs.Common.{take, ℕ, ◌++◌, ◌+◌, ◌-◌, ◌<◌, ◌==◌, ◌∙◌, ◌∷◌, ◌≡◌, ◌≤◌}}
+use Rattle.headers_section.specs.Section.{input_lines, is_filled, is_newline, section, without_return}
+use Rattle.{memchr.specs.Find.{NoneBefore, Nowhere, Passes, is_byte}, std.proofs.lemmas.List.Elements.All-from_get_or}
+use Rattle.std.proofs.Common.{All, List, [], ap, arith, drop, false, get_or, inl, inr, length, map, refl, subst, sym}
+use Rattle.std.proofs.lemmas.{Bool.{cases_Bool, false_from_ne_true}, List.Splits.{slice_split_at, slice_split_none}}
+use Rattle.std.{proofs.lemmas.List.Sums.take_while-cons, specs.{List.{slice_split, take_while}, Prelude.slice_index}}
+use Rattle.std.proofs.lemmas.List.{drop_more, get_or-take, length-take-le, take-append-drop, take-take}
 
 -- a list at one of its places
 pub split_at_place : (s : List ℕ) (k : ℕ) → k < length s → s ≡ take k s ++ get_or s k 0 ∷ drop (k + 1) s

@@ -1,10 +1,9 @@
 -- Each known header has a standard name.
-use Rattle.std.proofs.Common.{◌≡◌, ℕ, Bool, true, ◌&&◌, List, [], ◌∷◌, length, refl, sym, ◌∙◌, inl, inr}
-use Rattle.std.{proofs.lemmas.Bool.cases_Bool, proofs.lemmas.Slice.Eq.bytes_eq-Decides, specs.Prelude.bytes_eq}
-use Rattle.std.specs.List.{list_any}
+use Rattle.headers_section.{proofs.KnownLemmas.IsNoneOf, specs.KnownHeaders.{KnownHeader, known_headers}}
 use Rattle.http_header.specs.StandardHeader.{IsStandardName, standard_bytes, standard_with_len}
-use Rattle.http_header.specs.declared.name.standard.StandardHeader.{StandardHeader}
-use Rattle.headers_section.{specs.KnownHeaders.{KnownHeader, known_headers}, proofs.KnownLemmas.IsNoneOf}
+use Rattle.{http_header.specs.declared.name.standard.StandardHeader.StandardHeader, std.proofs.Common.{Bool, List, []}}
+use Rattle.std.proofs.{Common.{inl, inr, length, refl, sym, true, ℕ, ◌&&◌, ◌∙◌, ◌∷◌, ◌≡◌}, lemmas.Bool.cases_Bool}
+use Rattle.std.{proofs.lemmas.Slice.Eq.bytes_eq-Decides, specs.{List.list_any, Prelude.bytes_eq}}
 
 is_standard : List ℕ → Bool
 is_standard name = list_any (λ standard. bytes_eq (standard_bytes standard) name) (standard_with_len (length name))

@@ -1,11 +1,9 @@
 -- The text of a map that has the fields of an input, by the list of their names.
-use Rattle.std.proofs.Common.{◌≡◌, ℕ, ◌<◌, Bool, List, length, All, ◌∙◌, ap}
-use Rattle.http_header.{specs.FieldValue.FieldValue, specs.HeaderMap.{Entries, get_all}}
-use Rattle.headers.specs.Lines.{Line, lines_of}
-use Rattle.headers_section.{specs.Section.{Field, Holds}, specs.CanonicalText.{names, lines_under, first_appearances}}
-use Rattle.headers_section.specs.CanonicalText.{ListsNames, HasBlocks, IsCanonicalText}
-use Rattle.headers_section.{proofs.BlockLemmas.HasBlocks-same, proofs.RoomLemmas.AreFields-once}
-use Rattle.headers_section.proofs.NameLemmas.{lines_held, names_filled}
+use Rattle.{headers.specs.Lines.{Line, lines_of}, http_header.specs.HeaderMap.{Entries, get_all}}
+use Rattle.headers_section.{proofs.BlockLemmas.HasBlocks-same, specs.{CanonicalText.names, Section.{Field, Holds}}}
+use Rattle.headers_section.proofs.{NameLemmas.{lines_held, names_filled}, RoomLemmas.AreFields-once}
+use Rattle.headers_section.specs.CanonicalText.{HasBlocks, IsCanonicalText, ListsNames, first_appearances, lines_under}
+use Rattle.{http_header.specs.FieldValue.FieldValue, std.proofs.Common.{All, Bool, List, ap, length, ℕ, ◌<◌, ◌∙◌, ◌≡◌}}
 
 module _ (input : List ℕ) (map : Entries FieldValue) (list : List (List ℕ)) (holds : Holds input map)
     (lists : ListsNames input list) where

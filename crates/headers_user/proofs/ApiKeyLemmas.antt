@@ -1,12 +1,10 @@
 -- Keys are text.
-use Rattle.std.{proofs.Common.{◌≡◌, ℕ, ◌<◌, true, List, Err, rules, refl, codes}, specs.List.list_all, specs.Str.IsUtf8}
-use Rattle.std.{proofs.lemmas.List.Elements.{All-append, All-weaker}, proofs.lemmas.List.Sums.AllPass-from_list_all}
-use Rattle.std.{proofs.lemmas.Str.IsUtf8-from_ascii, proofs.lemmas.Str.Ascii.IsAscii-from_all}
-use Rattle.http_header.{specs.FieldValue.IsFieldValue, specs.Token.is_value_byte}
-use Rattle.headers.{specs.Lines.Line, specs.Typed.IsTypedRead, specs.declared.Refused.Refused}
-use Rattle.headers.specs.declared.Refused.TheVariants.{Invalid, Memory}
-use Rattle.headers.specs.declared.authorization.Authorization.{Authorization}
-use Rattle.headers_user.specs.ApiKey.{is_key, is_key_byte, api_key_writes, CarryKey}
+use Rattle.headers.specs.{Lines.Line, Typed.IsTypedRead, declared.Refused.{Refused, TheVariants.{Invalid, Memory}}}
+use Rattle.{headers.specs.declared.authorization.Authorization.Authorization, headers_user.specs.ApiKey.CarryKey}
+use Rattle.{headers_user.specs.ApiKey.{api_key_writes, is_key, is_key_byte}, http_header.specs.FieldValue.IsFieldValue}
+use Rattle.{http_header.specs.Token.is_value_byte, std.proofs.Common.{Err, List, codes, refl, rules, true, ℕ, ◌<◌, ◌≡◌}}
+use Rattle.std.proofs.lemmas.List.{Elements.{All-append, All-weaker}, Sums.AllPass-from_list_all}
+use Rattle.std.{proofs.lemmas.Str.{Ascii.IsAscii-from_all, IsUtf8-from_ascii}, specs.{List.list_all, Str.IsUtf8}}
 
 key_byte_ascii : (b : ℕ) → is_key_byte b ≡ true → b < 128
 key_byte_ascii b e = search rules

@@ -1,10 +1,8 @@
 -- Lines that write no number hold no `max-forwards`.
-use Rattle.std.proofs.Common.{ℕ, List, Option, Some, None, Err}
-use Rattle.http_header.specs.FieldValue.{FieldValue}
-use Rattle.headers.{specs.DecodesTo.DecodesTo, specs.HeaderLaws.ReadsBy, specs.Lines.Line, specs.OfLines.OfLines}
-use Rattle.headers.{specs.Shapes.only_number, specs.declared.Refused.Refused}
-use Rattle.headers.specs.declared.Refused.TheVariants.{Invalid, Memory}
-use Rattle.headers_user.specs.MaxForwards.{max_forwards_reads}
+use Rattle.headers.specs.{DecodesTo.DecodesTo, HeaderLaws.ReadsBy, Lines.Line, OfLines.OfLines, Shapes.only_number}
+use Rattle.headers.specs.declared.Refused.{Refused, TheVariants.{Invalid, Memory}}
+use Rattle.{headers_user.specs.MaxForwards.max_forwards_reads, http_header.specs.FieldValue.FieldValue}
+use Rattle.std.proofs.Common.{Err, List, None, Option, Some, ℕ}
 
 -- a refusal of the number
 abbrev pub RefusesNumber : {E : Type 0} → Refused E → List Line → Type 0

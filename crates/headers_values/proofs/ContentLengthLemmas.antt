@@ -1,9 +1,8 @@
 -- What the loop of `ContentLength::decode` knows of the lines that have come.
-use Rattle.std.proofs.Common.{◌≡◌, ℕ, ◌<◌, ◌≢◌, List, [], ◌∷◌, ◌++◌, length, Option, Some, None, sym, ◌∙◌, arith}
-use Rattle.std.proofs.Common.{length-append}
-use Rattle.headers_syntax.{specs.Lines.Line, specs.Number.number}
-use Rattle.headers_values.{specs.declared.content_length.ContentLength.ContentLength, specs.ContentLength.AllWrite}
+use Rattle.{headers_syntax.specs.{Lines.Line, Number.number}, headers_values.specs.ContentLength.AllWrite}
 use Rattle.headers_values.specs.ContentLength.{content_length_reads}
+use Rattle.{headers_values.specs.declared.content_length.ContentLength.ContentLength, std.proofs.Common.{List, None}}
+use Rattle.std.proofs.Common.{Option, Some, [], arith, length, length-append, sym, ℕ, ◌++◌, ◌<◌, ◌∙◌, ◌∷◌, ◌≡◌, ◌≢◌}
 
 -- the number of all lines so far
 abbrev pub NumberSoFar : Option ℕ → List Line → Type 0

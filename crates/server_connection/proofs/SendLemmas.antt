@@ -1,25 +1,24 @@
 -- What a step of sending does to a response.
-use Rattle.std.proofs.Common.{◌≡◌, ◌⊎◌, ℕ, ◌≤◌, Bool, true, false, cond, List, [], ◌∷◌, ◌++◌, length, replicate, not}
-use Rattle.std.proofs.Common.{None, refl, sym, ap, ◌∙◌, subst, arith, append_assoc, append-nil, inl, inr}
-use Rattle.std.proofs.lemmas.{Bool.{ne_eqb, cond-false}, List.{length-replicate, nil_from_length}}
-use Rattle.http.specs.{declared.request.Request.Request, Request.{head_of, body_of}}
-use Rattle.http1.specs.{declared.{conn.Writing.Writing, server.Server.Server}, Conn.{data_prefix, data_refusal}}
-use Rattle.http1.specs.{Conn.{data_suffix, data_text}, Framing.method_kind, Message.{ReadsRequestMessage, known_of}}
-use Rattle.http1.specs.Server.{is_head, peer_method, writing, after_end, response_refusal, IsClosed, new_server}
-use Rattle.{http1_typed.specs.Parts.reason_of, http_server.specs.declared.response.Response.Response}
-use Rattle.http_server.specs.declared.state.State.{State, TheVariants.{Open, Closing, Aborted}}
-use Rattle.http_server.specs.{declared.state.Reason.TheVariants.Asked, Encoding.{Encodes, answering, size_of}}
-use Rattle.http_server.specs.{Encoding.{after_body, final_text}, Exchange.{ArePartsOf, Call, Exchanges, IsAnswer}}
-use Rattle.http_server.specs.{Exchange.{Serves, keeps_open}, History.{History, IsServed, output}, Machine.Core}
-use Rattle.http_server.{specs.Machine.{HasRequest, HasResponse, IsRunning, Base}, proofs.AnswerLemmas.body_is_taken}
-use Rattle.http_server.proofs.{AnswerLemmas.{final_answer, starts_over}, ReplyLemmas.{closes, goes_on}}
-use Rattle.{http_server.proofs.StreamLemmas.Serves-push, server_connection.specs.declared.piece.Piece.Piece}
-use Rattle.server_connection.specs.{declared.plan.ResponsePlan.ResponsePlan, Encoding.{Frames, content_len, head_text}}
+use Rattle.{http.specs.{Request.{body_of, head_of}, declared.request.Request.Request}, http1.specs.Conn.data_prefix}
+use Rattle.http1.specs.{Conn.{data_refusal, data_suffix, data_text}, Framing.method_kind, Message.ReadsRequestMessage}
+use Rattle.http1.specs.{Message.known_of, Server.{IsClosed, after_end, is_head, new_server, peer_method}}
+use Rattle.http1.specs.{Server.{response_refusal, writing}, declared.{conn.Writing.Writing, server.Server.Server}}
+use Rattle.{http1_typed.specs.Parts.reason_of, http_server.proofs.AnswerLemmas.{body_is_taken, final_answer}}
+use Rattle.http_server.proofs.{AnswerLemmas.starts_over, ReplyLemmas.{closes, goes_on}, StreamLemmas.Serves-push}
+use Rattle.http_server.specs.{Encoding.{Encodes, after_body, answering, final_text, size_of}, Exchange.ArePartsOf}
+use Rattle.http_server.specs.{Exchange.{Call, Exchanges, IsAnswer, Serves, keeps_open}, History.{History, IsServed}}
+use Rattle.http_server.specs.{History.output, Machine.{Base, Core, HasRequest, HasResponse, IsRunning}}
+use Rattle.http_server.specs.declared.{response.Response.Response, state.{Reason.TheVariants.Asked, State.State}}
+use Rattle.http_server.specs.declared.state.State.TheVariants.{Aborted, Closing, Open}
+use Rattle.server_connection.proofs.{LiteralLemmas.{SendsCalls-push, rest_same}, PieceLemmas.Advances-length}
+use Rattle.server_connection.{proofs.PieceLemmas.Advances-then, specs.Encoding.{Frames, content_len, head_text}}
 use Rattle.server_connection.specs.{Encoding.{plan_fields, prefix_of}, Literal.{IsLater, SendsCall}, Machine.Account}
 use Rattle.server_connection.specs.{Machine.{IsLaid, IsSending, Sends, View}, Pieces.{Advances, Advances.stays, Gives}}
-use Rattle.server_connection.specs.Plan.{Answers, IsContentOf, Plans, sent_pieces}
-use Rattle.server_connection.proofs.{LiteralLemmas.{SendsCalls-push, rest_same}, PieceLemmas.Advances-length}
-use Rattle.server_connection.proofs.PieceLemmas.{Advances-then}
+use Rattle.server_connection.specs.{Plan.{Answers, IsContentOf, Plans, sent_pieces}, declared.piece.Piece.Piece}
+use Rattle.{server_connection.specs.declared.plan.ResponsePlan.ResponsePlan, std.proofs.Common.{Bool, List, None, []}}
+use Rattle.std.proofs.Common.{ap, append-nil, append_assoc, arith, cond, false, inl, inr, length, not, refl, replicate}
+use Rattle.std.proofs.{Common.{subst, sym, true, ℕ, ◌++◌, ◌∙◌, ◌∷◌, ◌≡◌, ◌≤◌, ◌⊎◌}, lemmas.Bool.{cond-false, ne_eqb}}
+use Rattle.std.proofs.lemmas.List.{length-replicate, nil_from_length}
 use Rattle.http1.specs.declared.conn.Writing.TheVariants as Writes
 use Rattle.http_server.specs.Encoding as Whole
 

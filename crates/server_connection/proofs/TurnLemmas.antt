@@ -1,37 +1,35 @@
 -- What steps, reads and writes do to a connection.
-use Rattle.std.proofs.Common.{◌≡◌, ◌≢◌, ◌⊎◌, ℕ, ◌==◌, Bool, true, false, List, [], ◌∷◌, ◌++◌, length, take, drop}
-use Rattle.std.proofs.Common.{if◌then◌else◌, Option, Some, None, IsTrue, IfNone, is_some, ◌+◌, ◌<◌, take_all, refl, sym}
-use Rattle.std.proofs.Common.{ap, ◌∙◌, subst, append_assoc, append-nil, inl, inr, arith, length-append, ◌≤◌, Global}
-use Rattle.std.{proofs.Math.Seq.take-append_seam, proofs.lemmas.Bool.eqb-true, proofs.lemmas.List.nil_from_length}
-use Rattle.std.{proofs.lemmas.List.take-append-drop, specs.Io.KnownBytes.{Appends, Consumes, Keeps as StaysKnown}}
-use Rattle.{bytes.specs.declared.unique.BytesMut.BytesMut, server_connection.specs.Machine.{Aborts, Account, Begins}}
-use Rattle.server_connection.specs.Machine.{Ends, GoesOn, HandsOut, HasAnswered, HasAborted, Asks, CutsOff, Drops}
-use Rattle.server_connection.specs.Machine.{Empties, GivesUp, HasPlanned, IsLaid, Offers, Stays, IsNextRange, IsSending}
-use Rattle.server_connection.specs.Machine.{Keeps, Opens, Refuses, KeepsRest, KeepsState, Leads, Past, Runs, RunsAt}
-use Rattle.server_connection.specs.Machine.{SendsOn, TakesIn, Moves, core, core_asking, history_of, new_past}
-use Rattle.server_connection.specs.Machine.{past_after, view, account, sends_left, with_calls, work}
-use Rattle.server_connection.specs.declared.machine.{Machine.Machine, Phase.{Phase, TheVariants.{Receiving, Asking}}}
-use Rattle.server_connection.specs.declared.{machine.Phase.TheVariants.Responding, piece.OpenRange.OpenRange}
-use Rattle.server_connection.specs.{declared.{piece.Piece.Piece, plan.ResponsePlan.ResponsePlan}, Connection.Exchanged}
-use Rattle.server_connection.specs.Connection.{HasEnded, HasRested, HasTurned, IsClosing, IsReached, IsReached.begun}
-use Rattle.server_connection.specs.Connection.{IsReached.moved, IsSentLiterally, IsTurned, IsTurned.{by_none, by_read}}
-use Rattle.server_connection.specs.{Connection.{IsTurned.by_write, Turns, WaitsAtRest}, Literal.{IsLater, IsLiteral}}
-use Rattle.server_connection.specs.{Pieces.{Shortens, Advances, Gives}, Plan.{Answers, Plans, sent_pieces}}
-use Rattle.server_connection.proofs.SendLemmas.{base_out, answers, call, closes_after, cuts, hands_on, laid_closed}
-use Rattle.server_connection.proofs.{SendLemmas.{laid_open, moves, stays_open}, LiteralLemmas.{laid_more, rest_same}}
-use Rattle.{server_connection.proofs.PieceLemmas.{sends_range_at, sends_short}, http_server.specs.Exchange.Chain}
-use Rattle.http_server.specs.Exchange.{Call, ExpectsContinue, IsInterim, Serves, continue_text}
-use Rattle.http_server.specs.declared.state.{Config.Config, State.{State, TheVariants.{Open, Closing, Aborted}}}
-use Rattle.http_server.specs.declared.state.{Reason.TheVariants.{Asked, Refused}, Refusal.Refusal}
-use Rattle.http_server.specs.{declared.state.Refusal.TheVariants.BodyTooLarge, Encoding.answering, History.History}
-use Rattle.http_server.specs.{History.{IsServed, Stands, after_read, after_sent, output}, Machine.{Core, HasHead}}
-use Rattle.http_server.specs.{Machine.{HasRequest, Holds, HoldsAt, IsPlaced}, Refusal.refusal_text}
-use Rattle.http_server.proofs.{MachineLemmas.{busy, may_abort, running, served}, KnownLemmas.Appends-then}
-use Rattle.http_server.proofs.{KnownLemmas.Consumes-then, TransferLemmas.{hands_out, receives, with_history}}
-use Rattle.{http_server.proofs.StreamLemmas.Chain-append, http.specs.{declared.request.Parts.Parts, Request.head_of}}
-use Rattle.http1.specs.declared.{conn.{Event.{Event, TheVariants.Head}, Progress.Progress}, server.Server.Server}
-use Rattle.http1.specs.{Conn.ReadsPiece, Server.{ReadsAt, ServerReads, reading}}
+use Rattle.{bytes.specs.declared.unique.BytesMut.BytesMut, http_server.proofs.KnownLemmas.{Appends-then, Consumes-then}}
+use Rattle.{http.specs.Request.head_of, http1.specs.Conn.ReadsPiece}
+use Rattle.{http.specs.declared.request.Parts.Parts, std.proofs.{Math.Seq.take-append_seam, lemmas.Bool.eqb-true}}
+use Rattle.http1.specs.{Server.{ReadsAt, ServerReads, reading}, declared.conn.Event.{Event, TheVariants.Head}}
+use Rattle.{http1.specs.declared.conn.Progress.Progress, std.proofs.lemmas.List.{nil_from_length, take-append-drop}}
+use Rattle.{http1.specs.declared.server.Server.Server, std.specs.Io.KnownBytes.{Appends, Consumes, Keeps as StaysKnown}}
+use Rattle.http_server.{proofs.MachineLemmas.{busy, may_abort, running, served}, specs.Encoding.answering}
+use Rattle.http_server.proofs.{StreamLemmas.Chain-append, TransferLemmas.{hands_out, receives, with_history}}
+use Rattle.http_server.specs.Exchange.{Call, Chain, ExpectsContinue, IsInterim, Serves, continue_text}
+use Rattle.http_server.specs.{History.{History, IsServed, Stands, after_read, after_sent, output}, Refusal.refusal_text}
+use Rattle.http_server.specs.{Machine.{Core, HasHead, HasRequest, Holds, HoldsAt, IsPlaced}, declared.state.State.State}
+use Rattle.http_server.specs.declared.state.{Config.Config, Refusal.Refusal, State.TheVariants.{Aborted, Closing, Open}}
+use Rattle.http_server.specs.declared.state.{Reason.TheVariants.{Asked, Refused}, Refusal.TheVariants.BodyTooLarge}
 use Rattle.httparse.specs.declared.spans.{HeaderSpan.HeaderSpan, RequestSpans.RequestSpans}
+use Rattle.server_connection.proofs.{LiteralLemmas.{laid_more, rest_same}, SendLemmas.{laid_open, moves, stays_open}}
+use Rattle.server_connection.{proofs.PieceLemmas.{sends_range_at, sends_short}, specs.Literal.{IsLater, IsLiteral}}
+use Rattle.server_connection.proofs.SendLemmas.{answers, base_out, call, closes_after, cuts, hands_on, laid_closed}
+use Rattle.server_connection.specs.Connection.{Exchanged, HasEnded, HasRested, HasTurned, IsClosing, IsReached}
+use Rattle.server_connection.specs.Connection.{IsReached.{begun, moved}, IsSentLiterally, IsTurned, Turns, WaitsAtRest}
+use Rattle.server_connection.specs.{Connection.IsTurned.{by_none, by_read, by_write}, declared.machine.Phase.Phase}
+use Rattle.server_connection.specs.Machine.{Aborts, Account, Asks, Begins, CutsOff, Drops, Empties, Ends, GivesUp}
+use Rattle.server_connection.specs.Machine.{GoesOn, HandsOut, HasAborted, HasAnswered, HasPlanned, IsLaid, IsNextRange}
+use Rattle.server_connection.specs.Machine.{IsSending, Keeps, KeepsRest, KeepsState, Leads, Moves, Offers, Opens, Past}
+use Rattle.server_connection.specs.Machine.{Refuses, Runs, RunsAt, SendsOn, Stays, TakesIn, account, core, core_asking}
+use Rattle.server_connection.specs.Machine.{history_of, new_past, past_after, sends_left, view, with_calls, work}
+use Rattle.server_connection.specs.{Pieces.{Advances, Gives, Shortens}, Plan.{Answers, Plans, sent_pieces}}
+use Rattle.server_connection.specs.declared.machine.{Machine.Machine, Phase.TheVariants.{Asking, Receiving, Responding}}
+use Rattle.server_connection.specs.declared.{piece.{OpenRange.OpenRange, Piece.Piece}, plan.ResponsePlan.ResponsePlan}
+use Rattle.std.proofs.Common.{Bool, Global, IfNone, IsTrue, List, None, Option, Some, [], ap, append-nil, append_assoc}
+use Rattle.std.proofs.Common.{arith, drop, false, if◌then◌else◌, inl, inr, is_some, length, length-append, refl, subst}
+use Rattle.std.proofs.Common.{sym, take, take_all, true, ℕ, ◌++◌, ◌+◌, ◌<◌, ◌==◌, ◌∙◌, ◌∷◌, ◌≡◌, ◌≢◌, ◌≤◌, ◌⊎◌}
 
 -- ---- known bytes
 

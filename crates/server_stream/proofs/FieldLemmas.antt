@@ -1,7 +1,6 @@
 -- Fields that no map takes.
-use Rattle.std.proofs.Common.{arith}
-use Rattle.{std.proofs.Common.List, http.specs.declared.error.Error.Error, http1.specs.Fields.Header}
 use Rattle.{gateway_connection.specs.Content.IsMapFailure, server_stream.specs.Heads.{IsFieldsRejection, map_rejection}}
+use Rattle.{http.specs.declared.error.Error.Error, http1.specs.Fields.Header, std.proofs.Common.{List, arith}}
 use Rattle.http.specs.declared.error.Error.TheVariants as Mapped
 
 -- the reason is the one of the map

@@ -1,18 +1,17 @@
 -- What a read of `http1` finds.
-use Rattle.std.proofs.Common.{◌≡◌, ℕ, ◌≤◌, ◌⊎◌, inl, inr, Bool, true, false, List, [], ◌++◌, length, ◌&&◌, ◌==◌, not}
-use Rattle.std.proofs.{Common.{drop, sym, refl, ap, ◌∙◌, subst, append-nil, arith}, lemmas.Bool.and_parts}
-use Rattle.httparse.specs.{Spans.span_bytes, declared.spans.{HeaderSpan.HeaderSpan, RequestSpans.RequestSpans}}
-use Rattle.{httparse.{specs.declared.spans.Span.Span, proofs.RunLemmas.length-slice_range}, http1.specs.Body.body_of}
-use Rattle.http1.specs.{Fields.Header, ServerTrace.headers_at, Conn.{ReadsPiece, is_read, unread_size}}
-use Rattle.http1.specs.{Decoder.{Completes, Ends, decoder_for}, Server.{ReadsAt, ReadsHead, ServerReads, after_piece}}
-use Rattle.http1.specs.{Server.{closed_server, cycle, new_server, request_of, server_eof}, declared.conn.Event.Event}
+use Rattle.{gateway_connection.specs.Content.HasNoMap, http1.specs.declared.{conn.Event.Event, server.Server.Server}}
+use Rattle.{http1.specs.{Body.body_of, declared.framing.Framing.Framing}, httparse.proofs.RunLemmas.length-slice_range}
+use Rattle.http1.specs.{Conn.{ReadsPiece, is_read, unread_size}, Decoder.{Completes, Ends, decoder_for}, Fields.Header}
+use Rattle.http1.specs.Server.{ReadsAt, ReadsHead, ServerReads, after_piece, closed_server, cycle, new_server}
+use Rattle.{http1.specs.{Server.{request_of, server_eof}, ServerTrace.headers_at}, server_stream.specs.Steps.TakesPiece}
 use Rattle.http1.specs.declared.{conn.{Limits.Limits, Progress.Progress, Reading.Reading}, decode.Decoder.Decoder}
-use Rattle.http1.specs.declared.{framing.Framing.Framing, server.Server.Server}
-use Rattle.{gateway_connection.specs.Content.HasNoMap, server_stream.specs.Heads.{IsFieldsRejection, IsHeadRejection}}
-use Rattle.server_stream.specs.{Heads.{IsUnder, content_size}, declared.connection.StreamConnection.StreamConnection}
-use Rattle.server_stream.specs.declared.{event.StreamRequest.StreamRequest, rejection.StreamRejection.StreamRejection}
+use Rattle.{httparse.specs.Spans.span_bytes, server_stream.specs.declared.connection.StreamConnection.StreamConnection}
+use Rattle.httparse.specs.declared.spans.{HeaderSpan.HeaderSpan, RequestSpans.RequestSpans, Span.Span}
+use Rattle.server_stream.specs.Heads.{IsFieldsRejection, IsHeadRejection, IsUnder, content_size}
 use Rattle.server_stream.specs.Steps.{HasInvalidFields, IsStarved, IsWrong, Rejects, RunsOut, RunsOutAt, TakesHead}
-use Rattle.server_stream.specs.Steps.{TakesPiece}
+use Rattle.server_stream.specs.declared.{event.StreamRequest.StreamRequest, rejection.StreamRejection.StreamRejection}
+use Rattle.std.proofs.Common.{Bool, List, [], ap, append-nil, arith, drop, false, inl, inr, length, not, refl, subst}
+use Rattle.std.proofs.{Common.{sym, true, ℕ, ◌&&◌, ◌++◌, ◌==◌, ◌∙◌, ◌≡◌, ◌≤◌, ◌⊎◌}, lemmas.Bool.and_parts}
 use Rattle.http1.specs.Server as Serving
 use Rattle.http1.specs.declared.conn.Event.TheVariants as Found
 use Rattle.http1.specs.declared.conn.Reading.TheVariants as Reads

@@ -1,38 +1,35 @@
 -- What is true after every history of calls.
-use Rattle.std.proofs.Common.{arith, ◌≡◌, ◌≢◌, ℕ, ◌⊎◌, inl, inr, Bool, true, false, cond, ◌&&◌, not, List, [], ◌∷◌}
-use Rattle.std.proofs.Common.{◌++◌, length, take, drop, map, Option, Some, None, Result, Ok, Err, sym, refl, ap, ◌∙◌}
-use Rattle.std.proofs.{Common.{append_assoc, append-nil, ◌==◌, ◌/◌, ◌||◌, nat_lt}, lemmas.Bool.and_parts}
-use Rattle.{std.{proofs.lemmas.List.take-append-drop, specs.Bool.⊤}, httparse.specs.Grammar.Field}
-use Rattle.httparse.{specs.Spans.name_and_value, proofs.GrammarLemmas.ReadsRequest-append}
-use Rattle.{http_header.specs.{FieldValue.FieldValue, HeaderMap.Entries}, http1.specs.Body.{ReadsBody, body_of}}
-use Rattle.http1.specs.{Decoder.{Completes, Continues, decoder_for, with_front}, Fields.Header, Conn.{Plan, after_data}}
-use Rattle.http1.specs.Conn.{awaits_head, data_refusal, data_text, finish_refusal, finish_text, is_connect, is_read}
-use Rattle.http1.specs.{Conn.{plan_refusal, planned_headers}, Head.{is_status_line, response_text}}
-use Rattle.http1.specs.{Message.AcceptsRequest, Server.{RefusesAt, after_end, after_informational, after_piece}}
-use Rattle.http1.specs.Server.{after_response, bodiless_refusal, closed_server, failed_server, has_request}
-use Rattle.http1.specs.Server.{informational_refusal, may_respond, new_server, planned_response, responding}
-use Rattle.http1.specs.Server.{response_plan, response_refusal, upgrade_refusal, upgraded_server, with_writing}
-use Rattle.http1.specs.declared.{conn.{BodySize.BodySize, Limits.Limits, Reading.Reading}, decode.Decoder.Decoder}
-use Rattle.http1.specs.declared.{encode.Encoder.Encoder, error.{WriteError.WriteError, ReadError.ReadError}}
-use Rattle.http1.specs.declared.{error.ReadError.TheVariants.UnexpectedEof, framing.Framing.Framing}
-use Rattle.http1.{specs.declared.server.Server.Server, proofs.DecoderLemmas.decoder_for-live}
-use Rattle.{http1.proofs.OneParse.body_from_completes, gateway_connection.specs.Content.{after_pieces, map_of}}
-use Rattle.gateway_connection.{specs.Exchanges.{encoder_in, keeps_in}, proofs.ContentLemmas.{end_at, front_goes}}
-use Rattle.gateway_connection.proofs.ContentLemmas.{front_grows, put_at, takes_data, takes_end, writing_at}
+use Rattle.gateway_connection.proofs.ContentLemmas.{end_at, front_goes, front_grows, put_at, takes_data, takes_end}
+use Rattle.gateway_connection.{proofs.ContentLemmas.writing_at, specs.Content.{after_pieces, map_of}}
+use Rattle.{gateway_connection.specs.Exchanges.{encoder_in, keeps_in}, http1.proofs.DecoderLemmas.decoder_for-live}
+use Rattle.http1.{proofs.OneParse.body_from_completes, specs.{Body.{ReadsBody, body_of}, Fields.Header}}
+use Rattle.http1.specs.Conn.{Plan, after_data, awaits_head, data_refusal, data_text, finish_refusal, finish_text}
+use Rattle.http1.specs.{Conn.{is_connect, is_read, plan_refusal, planned_headers}, Head.{is_status_line, response_text}}
+use Rattle.http1.specs.{Decoder.{Completes, Continues, decoder_for, with_front}, Message.AcceptsRequest}
+use Rattle.http1.specs.Server.{RefusesAt, after_end, after_informational, after_piece, after_response, bodiless_refusal}
+use Rattle.http1.specs.Server.{closed_server, failed_server, has_request, informational_refusal, may_respond}
+use Rattle.http1.specs.Server.{new_server, planned_response, responding, response_plan, response_refusal}
+use Rattle.http1.specs.{Server.{upgrade_refusal, upgraded_server, with_writing}, declared.conn.BodySize.BodySize}
+use Rattle.http1.specs.declared.{conn.{Limits.Limits, Reading.Reading}, decode.Decoder.Decoder, encode.Encoder.Encoder}
+use Rattle.http1.specs.declared.error.{ReadError.{ReadError, TheVariants.UnexpectedEof}, WriteError.WriteError}
+use Rattle.{http1.specs.declared.{framing.Framing.Framing, server.Server.Server}, server_stream.specs.Steps.after_head}
+use Rattle.{http_header.specs.{FieldValue.FieldValue, HeaderMap.Entries}, std.proofs.lemmas.List.take-append-drop}
+use Rattle.httparse.{proofs.GrammarLemmas.ReadsRequest-append, specs.{Grammar.Field, Spans.name_and_value}}
 use Rattle.server_stream.proofs.FindLemmas.{Turns, limits_turned, reads_next, still_waits, turns_piece, waits_before}
 use Rattle.server_stream.specs.Exchanges.{Answer, Bare, Begun, Due, Exchange, Final, IsFramedFor, IsOf, ReadsExchange}
 use Rattle.server_stream.specs.Exchanges.{ReadsKept, Response, Switched, answer_text, bare_text, bare_texts}
 use Rattle.server_stream.specs.{Exchanges.{exchange_text, head_text, no_answer, plan_of, response_bytes}, Heads.told_of}
-use Rattle.server_stream.specs.declared.connection.StreamConnection.{StreamConnection}
-use Rattle.server_stream.specs.declared.event.{StreamRequest.StreamRequest, StreamEvent.StreamEvent}
-use Rattle.server_stream.specs.{declared.rejection.StreamRejection.StreamRejection, History.{Exchanged, Heard}}
-use Rattle.server_stream.specs.History.{IsReached, IsTold, IsWhole, MayPut, Past, answers, begins, change, informs}
-use Rattle.server_stream.specs.History.{no_past, over, reject_at, tell, texts, with_content, with_end, with_piece}
-use Rattle.server_stream.specs.History.{with_trailers, Nothing, Part, Whole, Opened, Received, Finished, Informed}
-use Rattle.server_stream.specs.{History.{Responded, Handed, Put, Ended, Refused, Written, Said}, Steps.Ends}
-use Rattle.server_stream.specs.Steps.{EndsBetween, Fails, Finds, HandsOut, Informs, IsOfContent, IsWithin, Puts}
+use Rattle.server_stream.specs.History.{Ended, Exchanged, Finished, Handed, Heard, Informed, IsReached, IsTold, IsWhole}
+use Rattle.server_stream.specs.History.{MayPut, Nothing, Opened, Part, Past, Put, Received, Refused, Responded, Said}
+use Rattle.server_stream.specs.History.{Whole, Written, answers, begins, change, informs, no_past, over, reject_at}
+use Rattle.server_stream.specs.History.{tell, texts, with_content, with_end, with_piece, with_trailers}
+use Rattle.server_stream.specs.Steps.{Ends, EndsBetween, Fails, Finds, HandsOut, Informs, IsOfContent, IsWithin, Puts}
 use Rattle.server_stream.specs.Steps.{PutsNothing, Receives, Rejects, Responds, RunsOut, RunsOutAt, SaysAt, Switches}
-use Rattle.server_stream.specs.Steps.{after_head}
+use Rattle.server_stream.specs.declared.{connection.StreamConnection.StreamConnection, event.StreamEvent.StreamEvent}
+use Rattle.server_stream.specs.declared.{event.StreamRequest.StreamRequest, rejection.StreamRejection.StreamRejection}
+use Rattle.std.proofs.Common.{Bool, Err, List, None, Ok, Option, Result, Some, [], ap, append-nil, append_assoc, arith}
+use Rattle.std.proofs.Common.{cond, drop, false, inl, inr, length, map, nat_lt, not, refl, sym, take, true, ℕ, ◌&&◌}
+use Rattle.std.{proofs.{Common.{◌++◌, ◌/◌, ◌==◌, ◌||◌, ◌∙◌, ◌∷◌, ◌≡◌, ◌≢◌, ◌⊎◌}, lemmas.Bool.and_parts}, specs.Bool.⊤}
 use Rattle.httparse.specs.Grammar as Grammar
 use Rattle.http1.specs.declared.conn.Reading.TheVariants as Reads
 use Rattle.http1.specs.declared.conn.Writing.TheVariants as Writes

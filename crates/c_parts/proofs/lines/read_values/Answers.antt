@@ -1,9 +1,8 @@
-use Rattle.std.proofs.{Common.{◌≡◌, ◌∙◌, ◌++◌, [], ◌∷◌, List, All, ap, subst, sym}, lemmas.List.append-nil}
-use Rattle.{http_header.specs.FieldValue.{FieldValue, IsFieldValue}, headers.specs.Lines.{Line, lines_of}}
-use Rattle.{headers_section.specs.Section.input_lines, c_parts.specs.FieldText.field_lines}
-use Rattle.c_parts.proofs.LineLemmas.{first_line, lines_read, some_is_bad, values_read}
+use Rattle.c_parts.{proofs.LineLemmas.{first_line, lines_read, some_is_bad, values_read}, specs.FieldText.field_lines}
+use Rattle.{c_parts.proofs.lines.read_values.Goals.In_ok-push, http_header.specs.FieldValue.{FieldValue, IsFieldValue}}
+use Rattle.{headers.specs.Lines.{Line, lines_of}, headers_section.specs.Section.input_lines}
+use Rattle.std.proofs.{Common.{All, List, [], ap, subst, sym, ◌++◌, ◌∙◌, ◌∷◌, ◌≡◌}, lemmas.List.append-nil}
 use Rattle.c_parts.proofs.lines.read_values.Goals as goal
-use Rattle.c_parts.proofs.lines.read_values.Goals.{In_ok-push}
 
 pub returns-in_default-clause-none : goal.returns-in_default-clause-none
 returns-in_default-clause-none c =

@@ -1,7 +1,6 @@
-use Rattle.std.proofs.{Common.{◌∙◌, rules, sym, tests}, lemmas.Iterator.YieldsList-from_slice}
-use Rattle.std.{proofs.lemmas.Iterator.Search.any_from_yields_List, specs.Prelude.bytes_eq}
-use Rattle.{http_header.specs.FieldValue.FieldValue, headers.specs.Lines.Line}
-use Rattle.c_resource.proofs.ListLemmas.{list_any-map}
+use Rattle.{c_resource.proofs.ListLemmas.list_any-map, headers.specs.Lines.Line}
+use Rattle.{http_header.specs.FieldValue.FieldValue, std.proofs.Common.{rules, sym, tests, ◌∙◌}}
+use Rattle.std.{proofs.lemmas.Iterator.{Search.any_from_yields_List, YieldsList-from_slice}, specs.Prelude.bytes_eq}
 use Rattle.c_resource.proofs.lists.is_named.Goals as goal
 
 pub returns : goal.returns

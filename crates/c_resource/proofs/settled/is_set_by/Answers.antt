@@ -1,7 +1,6 @@
-use Rattle.std.{proofs.Common.{◌∙◌, rules, sym, tests}, specs.Prelude.bytes_eq}
-use Rattle.std.{proofs.lemmas.Iterator.YieldsList-from_slice, proofs.lemmas.Iterator.Search.any_from_yields_List}
-use Rattle.headers.{specs.LineMap.{Field, field_of}, specs.declared.Encoded.Encoded}
-use Rattle.c_resource.proofs.ListLemmas.{list_any-map}
+use Rattle.{c_resource.proofs.ListLemmas.list_any-map, headers.specs.LineMap.{Field, field_of}}
+use Rattle.{headers.specs.declared.Encoded.Encoded, std.proofs.Common.{rules, sym, tests, ◌∙◌}}
+use Rattle.std.{proofs.lemmas.Iterator.{Search.any_from_yields_List, YieldsList-from_slice}, specs.Prelude.bytes_eq}
 use Rattle.c_resource.proofs.settled.is_set_by.Goals as goal
 
 pub returns : goal.returns

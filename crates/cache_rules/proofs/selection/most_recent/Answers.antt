@@ -1,7 +1,6 @@
-use Rattle.cache_rules.proofs.SelectionLemmas.{end_none, end_some, step_in, step_out}
+use Rattle.{cache_rules.proofs.SelectionLemmas.{end_none, end_some, step_in, step_out}, std.proofs.Common.◌∙◌}
+use Rattle.cache_rules.proofs.selection.most_recent.Goals.{else-is_in_search, then-is_in_search}
 use Rattle.cache_rules.proofs.selection.most_recent.Goals as goal
-use Rattle.cache_rules.proofs.selection.most_recent.Goals.{then-is_in_search, else-is_in_search}
-use Rattle.std.proofs.Common.{◌∙◌}
 
 pub loop-place-preserved : goal.loop-place-preserved
 loop-place-preserved c = elim c.if-is_in_search.branch [

@@ -1,8 +1,7 @@
-use Rattle.{std.proofs.Common.rules, headers.specs.LineMap.lines_at}
-use Rattle.decide_handshake.specs.declared.client.Flaw.TheVariants.{NotSwitched, NoUpgrade, NoConnection, WrongAccept}
-use Rattle.decide_handshake.specs.declared.client.Flaw.TheVariants.{MalformedExtensions, UnaskedExtension}
-use Rattle.decide_handshake.{specs.declared.client.Flaw.TheVariants.UnaskedProtocol, proofs.ClientLemmas.first}
-use Rattle.decide_handshake.proofs.ClientLemmas.{opened}
+use Rattle.decide_handshake.{proofs.ClientLemmas.{first, opened}, specs.declared.client.Flaw.TheVariants.WrongAccept}
+use Rattle.decide_handshake.specs.declared.client.Flaw.TheVariants.{MalformedExtensions, NoConnection, NoUpgrade}
+use Rattle.decide_handshake.specs.declared.client.Flaw.TheVariants.{NotSwitched, UnaskedExtension, UnaskedProtocol}
+use Rattle.{headers.specs.LineMap.lines_at, std.proofs.Common.rules}
 use Rattle.decide_handshake.proofs.client.check.Goals as goal
 
 -- each return has seen the rules before its flaw, and the last one all

@@ -1,7 +1,6 @@
-use Rattle.std.proofs.{Common.{true, rules}, lemmas.Iterator.Consumers.YieldsList-from_first}
-use Rattle.{std.proofs.lemmas.Iterator.Search.any_from_yields_List, headers.specs.Lines.lines_of}
-use Rattle.rfc_fields.specs.Members.{field_left, field_members, member_of}
-use Rattle.decide_handshake.specs.Extensions.{extension_name, is_named}
+use Rattle.{decide_handshake.specs.Extensions.{extension_name, is_named}, headers.specs.Lines.lines_of}
+use Rattle.{rfc_fields.specs.Members.{field_left, field_members, member_of}, std.proofs.Common.{rules, true}}
+use Rattle.std.proofs.lemmas.Iterator.{Consumers.YieldsList-from_first, Search.any_from_yields_List}
 use Rattle.decide_handshake.proofs.extensions.is_among.Goals as goal
 
 pub returns-in-Ok : goal.returns-in-Ok

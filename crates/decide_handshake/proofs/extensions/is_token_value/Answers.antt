@@ -1,7 +1,6 @@
-use Rattle.std.proofs.{Common.{rules, refl, ◌∙◌, sym}, lemmas.Iterator.Consumers.YieldsList-from_first}
-use Rattle.{std.proofs.lemmas.Iterator.Search.all_from_yields_List, http_header.specs.Token.is_token_byte}
-use Rattle.rfc_fields.specs.Values.{octets_left, octets_of, value_parts}
-use Rattle.decide_handshake.proofs.ExtensionLemmas.{token_cons}
+use Rattle.{decide_handshake.proofs.ExtensionLemmas.token_cons, http_header.specs.Token.is_token_byte}
+use Rattle.{rfc_fields.specs.Values.{octets_left, octets_of, value_parts}, std.proofs.Common.{refl, rules, sym, ◌∙◌}}
+use Rattle.std.proofs.lemmas.Iterator.{Consumers.YieldsList-from_first, Search.all_from_yields_List}
 use Rattle.decide_handshake.proofs.extensions.is_token_value.Goals as goal
 
 pub returns-then-is_token_char : goal.returns-then-is_token_char

@@ -1,7 +1,6 @@
-use Rattle.std.proofs.{Common.{true, rules}, lemmas.Iterator.Consumers.YieldsList-from_first}
-use Rattle.{std.proofs.lemmas.Iterator.Search.any_from_yields_List, headers.specs.LineMap.lines_at}
-use Rattle.{rfc_fields.specs.Members.{field_left, field_members, member_of}, decide_handshake.specs.Protocols.is_text}
-use Rattle.decide_handshake.specs.Protocols.{protocol_lines}
+use Rattle.{decide_handshake.specs.Protocols.{is_text, protocol_lines}, headers.specs.LineMap.lines_at}
+use Rattle.{rfc_fields.specs.Members.{field_left, field_members, member_of}, std.proofs.Common.{rules, true}}
+use Rattle.std.proofs.lemmas.Iterator.{Consumers.YieldsList-from_first, Search.any_from_yields_List}
 use Rattle.decide_handshake.proofs.protocols.lists_protocol.Goals as goal
 
 pub returns : goal.returns

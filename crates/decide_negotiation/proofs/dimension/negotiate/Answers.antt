@@ -1,8 +1,7 @@
-use Rattle.{std.proofs.Common.{◌≡◌, ◌∙◌, ℕ, List, length, ap, arith, Some}, http_header.specs.FieldValue.FieldValue}
-use Rattle.{http_header.specs.HeaderMap.get_all, headers_syntax.specs.Lines.lines_of}
-use Rattle.decide_negotiation.specs.{Choice.{led, offer_rank}, Qualities.{quality_in, rank}}
-use Rattle.decide_negotiation.{specs.declared.acceptability.Quality.Quality, proofs.ChoiceLemmas.leader_is_picked}
-use Rattle.decide_negotiation.proofs.ChoiceLemmas.{leading_on}
+use Rattle.decide_negotiation.{proofs.ChoiceLemmas.{leader_is_picked, leading_on}, specs.Choice.{led, offer_rank}}
+use Rattle.decide_negotiation.specs.{Qualities.{quality_in, rank}, declared.acceptability.Quality.Quality}
+use Rattle.{headers_syntax.specs.Lines.lines_of, http_header.specs.{FieldValue.FieldValue, HeaderMap.get_all}}
+use Rattle.std.proofs.Common.{List, Some, ap, arith, length, ℕ, ◌∙◌, ◌≡◌}
 use Rattle.decide_negotiation.proofs.dimension.negotiate.Goals as goal
 
 pub loop-place-preserved : goal.loop-place-preserved

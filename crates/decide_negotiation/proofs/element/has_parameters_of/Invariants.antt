@@ -1,6 +1,5 @@
-use Rattle.{std.proofs.Common.◌≡◌, rfc_fields.specs.Members.members_left}
-use Rattle.decide_negotiation.specs.{Elements.{own_parameters, parameters_of}, MediaRanges.are_had}
-use Rattle.decide_negotiation.proofs.ParameterLemmas.{own}
+use Rattle.decide_negotiation.{proofs.ParameterLemmas.own, specs.Elements.{own_parameters, parameters_of}}
+use Rattle.{decide_negotiation.specs.MediaRanges.are_had, rfc_fields.specs.Members.members_left, std.proofs.Common.◌≡◌}
 use Rattle.decide_negotiation.proofs.element.has_parameters_of.Given as goal
 
 abbrev pub invariant-loop-member : goal.invariant-loop-member

@@ -1,7 +1,6 @@
-use Rattle.std.proofs.{Common.{rules, tests, false}, lemmas.Iterator.Consumers.YieldsList-from_first}
-use Rattle.std.{proofs.lemmas.Iterator.Search.any_from_yields_List, specs.Option.option_map_or}
-use Rattle.rfc_fields.specs.{Members.{field_left, member_of}, Scan.Member}
-use Rattle.decide_negotiation.specs.{Languages.language_element_of, Lookup.is_any}
+use Rattle.{decide_negotiation.specs.{Languages.language_element_of, Lookup.is_any}, std.specs.Option.option_map_or}
+use Rattle.{rfc_fields.specs.{Members.{field_left, member_of}, Scan.Member}, std.proofs.Common.{false, rules, tests}}
+use Rattle.std.proofs.lemmas.Iterator.{Consumers.YieldsList-from_first, Search.any_from_yields_List}
 use Rattle.decide_negotiation.proofs.lookup.accepts_any.Goals as goal
 
 pub returns : goal.returns

@@ -1,7 +1,6 @@
-use Rattle.std.proofs.{Common.{◌≡◌, List, Option, ap, subst, ◌∙◌}, lemmas.Result.IfOk-weaker}
-use Rattle.{std.specs.Prelude.option_copied, headers.specs.LineMap.fields_of, decide_resource.specs.Answers.GoesOn}
-use Rattle.decide_resource.specs.{Answers.at_place, Requests.request_of}
-use Rattle.decide_resource.specs.declared.representation.Representation.{Representation}
+use Rattle.decide_resource.specs.{Answers.{GoesOn, at_place}, declared.representation.Representation.Representation}
+use Rattle.{decide_resource.specs.Requests.request_of, std.proofs.Common.{List, Option, ap, subst, ◌∙◌, ◌≡◌}}
+use Rattle.{headers.specs.LineMap.fields_of, std.{proofs.lemmas.Result.IfOk-weaker, specs.Prelude.option_copied}}
 use Rattle.decide_resource.proofs.answer.admitted.Goals as goal
 
 pub returns : goal.returns

@@ -1,6 +1,5 @@
-use Rattle.{std.proofs.Common.{◌≡◌, ℕ, length, subst, arith}, headers.specs.LineMap.lines_at}
-use Rattle.decide_negotiation.proofs.ChoiceLemmas.{IsLeading, leader_is_picked}
-use Rattle.decide_resource.specs.Representations.{score}
+use Rattle.{decide_negotiation.proofs.ChoiceLemmas.{IsLeading, leader_is_picked}, headers.specs.LineMap.lines_at}
+use Rattle.{decide_resource.specs.Representations.score, std.proofs.Common.{arith, length, subst, ℕ, ◌≡◌}}
 use Rattle.decide_resource.proofs.representation.preferred.Goals as goal
 
 pub returns : goal.returns

@@ -1,6 +1,5 @@
-use Rattle.std.proofs.Common.{codes, refl}
-use Rattle.http_header.{specs.Token.is_value_byte, proofs.TokenLemmas.AllPass-from_test}
-use Rattle.gateway_hops.{proofs.ElementLemmas.optional_valid, proofs.NodeLemmas.on_ok}
+use Rattle.{gateway_hops.proofs.{ElementLemmas.optional_valid, NodeLemmas.on_ok}, std.proofs.Common.{codes, refl}}
+use Rattle.http_header.{proofs.TokenLemmas.AllPass-from_test, specs.Token.is_value_byte}
 use Rattle.gateway_hops.proofs.element.push_host.Goals as goal
 
 pub returns-in_ok-push-in-Some-clause-valid : goal.returns-in_ok-push-in-Some-clause-valid

@@ -1,6 +1,5 @@
-use Rattle.std.proofs.Common.{arith, codes, decimal, refl}
-use Rattle.http_header.{specs.Token.is_value_byte, proofs.TokenLemmas.AllPass-from_test}
-use Rattle.gateway_hops.proofs.NodeLemmas.{decimal_valid, join_valid, on_ok}
+use Rattle.{gateway_hops.proofs.NodeLemmas.{decimal_valid, join_valid, on_ok}, http_header.specs.Token.is_value_byte}
+use Rattle.{http_header.proofs.TokenLemmas.AllPass-from_test, std.proofs.Common.{arith, codes, decimal, refl}}
 use Rattle.gateway_hops.proofs.node.push_number.Goals as goal
 
 pub returns-clause-valid : goal.returns-clause-valid

@@ -1,6 +1,5 @@
-use Rattle.std.proofs.Common.{◌≡◌, drop}
-use Rattle.headers.specs.LineMap.{fields_of as encodings_of}
-use Rattle.gateway_hops.specs.Replaced.{has_field}
+use Rattle.{gateway_hops.specs.Replaced.has_field, headers.specs.LineMap.fields_of as encodings_of}
+use Rattle.std.proofs.Common.{drop, ◌≡◌}
 use Rattle.gateway_hops.proofs.replace.has_field.Given as goal
 
 abbrev pub invariant-loop-encoded : goal.invariant-loop-encoded

@@ -1,6 +1,5 @@
-use Rattle.std.proofs.Common.{◌≡◌, ◌∷◌, ◌∙◌, [], codes, sym}
-use Rattle.headers.specs.Lines.{lines_of}
-use Rattle.gateway_messages.proofs.OptionLemmas.{named-close, named-keep_alive}
+use Rattle.{gateway_messages.proofs.OptionLemmas.{named-close, named-keep_alive}, headers.specs.Lines.lines_of}
+use Rattle.std.proofs.Common.{[], codes, sym, ◌∙◌, ◌∷◌, ◌≡◌}
 use Rattle.gateway_messages.proofs.hop_by_hop.is_named.Goals as goal
 
 pub returns-then-is_word : goal.returns-then-is_word

@@ -1,6 +1,5 @@
+use Rattle.{headers.proofs.ContentTypeLemmas.canonical_back, headers_mime.specs.MediaType.IsCanonical}
 use Rattle.std.proofs.Common.{subst}
-use Rattle.headers_mime.specs.MediaType.{IsCanonical}
-use Rattle.headers.proofs.ContentTypeLemmas.{canonical_back}
 use Rattle.headers.proofs.content_type.content_type_reads_back.Goals as goal
 
 pub returns : goal.returns

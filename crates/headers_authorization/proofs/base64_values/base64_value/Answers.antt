@@ -1,7 +1,6 @@
-use Rattle.std.proofs.Common.{◌≡◌, ℕ, List, [], ◌++◌, ◌∙◌, ap, sym, subst, arith}
+use Rattle.{base64.specs.GeneralPurpose.IsBytes, std.proofs.Common.{List, [], ap, arith, subst, sym, ℕ, ◌++◌, ◌∙◌, ◌≡◌}}
+use Rattle.headers_authorization.specs.{Base64.base64, Base64Laws.IsFieldValue-base64}
 use Rattle.http_header.specs.FieldValue.{IsFieldValue, plain_value}
-use Rattle.base64.specs.GeneralPurpose.{IsBytes}
-use Rattle.headers_authorization.{specs.Base64.base64, specs.Base64Laws.IsFieldValue-base64}
 use Rattle.headers_authorization.proofs.base64_values.base64_value.Goals as goal
 
 -- the text that the prefix was pushed on

@@ -1,5 +1,4 @@
-use Rattle.std.proofs.Common.{◌≡◌, Ok, Err, refl, sym, ◌∙◌}
-use Rattle.headers_authorization.specs.Base64.{base64}
+use Rattle.{headers_authorization.specs.Base64.base64, std.proofs.Common.{Err, Ok, refl, sym, ◌∙◌, ◌≡◌}}
 use Rattle.headers_authorization.proofs.base64_values.read_base64.Goals as goal
 
 pub returns-in-Ok : goal.returns-in-Ok

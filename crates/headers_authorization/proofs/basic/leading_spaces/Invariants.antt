@@ -1,5 +1,4 @@
-use Rattle.std.{proofs.Common.{◌≡◌, ◌+◌, drop}, specs.List.prefix_len}
-use Rattle.headers_authorization.specs.Basic.{is_space}
+use Rattle.{headers_authorization.specs.Basic.is_space, std.{proofs.Common.{drop, ◌+◌, ◌≡◌}, specs.List.prefix_len}}
 use Rattle.headers_authorization.proofs.basic.leading_spaces.Given as goal
 
 abbrev pub invariant-loop-i : goal.invariant-loop-i

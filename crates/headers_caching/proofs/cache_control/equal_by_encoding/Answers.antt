@@ -1,5 +1,4 @@
-use Rattle.std.proofs.Math.Bool.{and-true}
-use Rattle.headers_caching.proofs.EqualityLemmas.{rows_equal, written_equal}
+use Rattle.{headers_caching.proofs.EqualityLemmas.{rows_equal, written_equal}, std.proofs.Math.Bool.and-true}
 use Rattle.headers_caching.proofs.cache_control.equal_by_encoding.Goals as goal
 
 pub returns-clause-equal : goal.returns-clause-equal

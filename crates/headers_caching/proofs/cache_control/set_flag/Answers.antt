@@ -1,5 +1,4 @@
-use Rattle.std.proofs.Common.{◌||◌, ap}
-use Rattle.headers_syntax.proofs.AsciiCaseLemmas.{same_name-is}
+use Rattle.{headers_syntax.proofs.AsciiCaseLemmas.same_name-is, std.proofs.Common.{ap, ◌||◌}}
 use Rattle.headers_caching.proofs.cache_control.set_flag.Goals as goal
 
 pub returns : goal.returns

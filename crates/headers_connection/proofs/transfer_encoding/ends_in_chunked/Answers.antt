@@ -1,6 +1,5 @@
-use Rattle.std.{proofs.Common.{rules, ◌≡◌, codes, ap, ◌∙◌}, specs.List.after_last}
-use Rattle.headers_syntax.specs.Text.{trim}
-use Rattle.headers_connection.specs.Chunked.{is_comma}
+use Rattle.{headers_connection.specs.Chunked.is_comma, headers_syntax.specs.Text.trim, std.proofs.Common.{ap, codes}}
+use Rattle.std.{proofs.Common.{rules, ◌∙◌, ◌≡◌}, specs.List.after_last}
 use Rattle.headers_connection.proofs.transfer_encoding.ends_in_chunked.Goals as goal
 
 pub returns : goal.returns

@@ -1,6 +1,5 @@
-use Rattle.std.proofs.Common.{List, subst}
-use Rattle.http_header.specs.FieldValue.{FieldValue}
-use Rattle.headers_syntax.{specs.Lines.lines_of, specs.DecodesTo.DecodesTo, proofs.OfLinesLemmas.OfLines-slice}
+use Rattle.headers_syntax.{proofs.OfLinesLemmas.OfLines-slice, specs.{DecodesTo.DecodesTo, Lines.lines_of}}
+use Rattle.{http_header.specs.FieldValue.FieldValue, std.proofs.Common.{List, subst}}
 use Rattle.headers_core.proofs.laws.decode_values.Goals as goal
 
 pub returns-clause-value : goal.returns-clause-value

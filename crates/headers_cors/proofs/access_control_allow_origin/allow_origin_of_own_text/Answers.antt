@@ -1,8 +1,7 @@
-use Rattle.std.proofs.Common.{◌≡◌, List, ℕ, Some, None, refl, subst}
-use Rattle.headers_hosts.{specs.Origin.IsOriginLine, specs.OriginLaws.origin_back, specs.declared.origin.Origin.Origin}
-use Rattle.headers_cors.specs.AccessControlAllowOrigin.{IsKindLine, kind_text, kind_origin, allowed_text}
-use Rattle.headers_cors.specs.declared.access_control_allow_origin.OriginOrAny.{OriginOrAny}
-use Rattle.headers_cors.specs.declared.access_control_allow_origin.OriginOrAny.TheVariants.{One, Any}
+use Rattle.headers_cors.specs.AccessControlAllowOrigin.{IsKindLine, allowed_text, kind_origin, kind_text}
+use Rattle.headers_cors.specs.declared.access_control_allow_origin.OriginOrAny.{OriginOrAny, TheVariants.{Any, One}}
+use Rattle.headers_hosts.specs.{Origin.IsOriginLine, OriginLaws.origin_back, declared.origin.Origin.Origin}
+use Rattle.std.proofs.Common.{List, None, Some, refl, subst, ℕ, ◌≡◌}
 use Rattle.headers_cors.proofs.access_control_allow_origin.allow_origin_of_own_text.Goals as goal
 
 any_back : (kind : OriginOrAny) → kind_origin kind ≡ None → IsKindLine (kind_text kind) kind

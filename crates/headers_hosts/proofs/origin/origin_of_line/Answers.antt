@@ -1,6 +1,5 @@
-use Rattle.std.{proofs.Common.{List, ℕ, ◌∙◌, subst}, specs.Prelude.codes}
-use Rattle.http_uri.specs.Uri.{Spells, SpellsNone}
-use Rattle.headers_hosts.proofs.OriginLemmas.{no_origin, no_uri, is_no_word}
+use Rattle.{headers_hosts.proofs.OriginLemmas.{is_no_word, no_origin, no_uri}, http_uri.specs.Uri.{Spells, SpellsNone}}
+use Rattle.std.{proofs.Common.{List, subst, ℕ, ◌∙◌}, specs.Prelude.codes}
 use Rattle.headers_hosts.proofs.origin.origin_of_line.Goals as goal
 
 pub returns-in-None : goal.returns-in-None

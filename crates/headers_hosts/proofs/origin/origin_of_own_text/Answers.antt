@@ -1,7 +1,6 @@
+use Rattle.headers_hosts.specs.{Origin.{IsKindLine, kind_is_null, kind_text, origin_text}, OriginLaws.origin_back}
+use Rattle.headers_hosts.specs.declared.origin.OriginOrNull.{OriginOrNull, TheVariants.{Null, Tuple}}
 use Rattle.std.proofs.Common.{IsTrue, refl}
-use Rattle.headers_hosts.{specs.Origin.{IsKindLine, kind_text, kind_is_null, origin_text}, specs.OriginLaws.origin_back}
-use Rattle.headers_hosts.specs.declared.origin.OriginOrNull.{OriginOrNull}
-use Rattle.headers_hosts.specs.declared.origin.OriginOrNull.TheVariants.{Tuple, Null}
 use Rattle.headers_hosts.proofs.origin.origin_of_own_text.Goals as goal
 
 null_back : (kind : OriginOrNull) → IsTrue (kind_is_null kind) → IsKindLine (kind_text kind) kind

@@ -1,6 +1,5 @@
+use Rattle.{headers_hosts.proofs.OriginLemmas.text_decodes, http_header.specs.FieldValue.FieldValue}
 use Rattle.std.proofs.Common.{ap}
-use Rattle.http_header.specs.FieldValue.{FieldValue}
-use Rattle.headers_hosts.proofs.OriginLemmas.{text_decodes}
 use Rattle.headers_hosts.proofs.origin.origin_of_text.Goals as goal
 
 pub returns-in-Ok : goal.returns-in-Ok

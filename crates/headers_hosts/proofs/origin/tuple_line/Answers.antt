@@ -1,7 +1,6 @@
-use Rattle.std.{proofs.Common.{sym, subst, ◌∙◌, append_assoc}, specs.Prelude.codes}
-use Rattle.http_header.specs.FieldValue.{IsFieldValue}
-use Rattle.http_uri.specs.Grammar.{IsScheme, IsAuthority}
-use Rattle.headers_hosts.proofs.OriginLemmas.{IsFieldValue-tuple}
+use Rattle.{headers_hosts.proofs.OriginLemmas.IsFieldValue-tuple, http_header.specs.FieldValue.IsFieldValue}
+use Rattle.{http_uri.specs.Grammar.{IsAuthority, IsScheme}, std.proofs.Common.{append_assoc, subst, sym, ◌∙◌}}
+use Rattle.std.specs.Prelude.{codes}
 use Rattle.headers_hosts.proofs.origin.tuple_line.Goals as goal
 
 pub unreachable-requires : goal.unreachable-requires

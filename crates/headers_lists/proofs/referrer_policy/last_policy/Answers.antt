@@ -1,9 +1,8 @@
-use Rattle.std.proofs.Common.{◌≡◌, ◌∙◌, ℕ, List, [], ◌∷◌, map, Option, Some, None, refl, ◌==◌, lit<, rules}
-use Rattle.std.{specs.Option.option_or, specs.List.{filter_map, cons_option, fold, last_or, slice_split}}
-use Rattle.std.proofs.lemmas.Iterator.Consumers.{fold_from_yields_List}
-use Rattle.std.proofs.lemmas.Iterator.Splits.{YieldsList-from_str_split}
-use Rattle.headers_syntax.specs.Text.{trim}
-use Rattle.headers_lists.{specs.ReferrerPolicy.policy_named, specs.declared.referrer_policy.Policy.Policy}
+use Rattle.headers_lists.specs.{ReferrerPolicy.policy_named, declared.referrer_policy.Policy.Policy}
+use Rattle.{headers_syntax.specs.Text.trim, std.proofs.Common.{List, None, Option, Some, [], lit<, map, refl, rules, ℕ}}
+use Rattle.std.proofs.{Common.{◌==◌, ◌∙◌, ◌∷◌, ◌≡◌}, lemmas.Iterator.Consumers.fold_from_yields_List}
+use Rattle.std.{proofs.lemmas.Iterator.Splits.YieldsList-from_str_split, specs.List.{cons_option, filter_map, fold}}
+use Rattle.std.specs.{List.{last_or, slice_split}, Option.option_or}
 use Rattle.headers_lists.proofs.referrer_policy.last_policy.Goals as goal
 
 last_more : (r o : Option Policy) (all : List Policy) → last_or (option_or r o) all ≡ last_or o (cons_option r all)

@@ -1,7 +1,6 @@
-use Rattle.std.{proofs.Common.{◌≡◌, ◌∙◌, refl, lit<, length, arith, None}, specs.List.position_or_len}
-use Rattle.std.{proofs.lemmas.List.Folds.list_any_none, proofs.lemmas.List.Sums.fails_before_first}
-use Rattle.headers_items.specs.Pairs.{is_equals}
-use Rattle.headers_lists.specs.SecurityParts.{age_of}
+use Rattle.{headers_items.specs.Pairs.is_equals, headers_lists.specs.SecurityParts.age_of, std.proofs.Common.None}
+use Rattle.std.proofs.{Common.{arith, length, lit<, refl, ◌∙◌, ◌≡◌}, lemmas.List.Folds.list_any_none}
+use Rattle.std.{proofs.lemmas.List.Sums.fails_before_first, specs.List.position_or_len}
 use Rattle.headers_lists.proofs.strict_transport_security.age_of.Goals as goal
 
 pub returns-in_err-name : goal.returns-in_err-name

@@ -1,8 +1,7 @@
-use Rattle.std.{proofs.Common.{◌∙◌, ◌==◌, ap, lit<, rules, None}, specs.List.slice_split, specs.Option.option_flatten}
+use Rattle.headers_lists.{proofs.SecurityLemmas.{only_age_is, reduced}, specs.SecurityParts.age_of}
+use Rattle.{headers_syntax.specs.Text.trim, std.specs.{List.slice_split, Option.option_flatten}}
+use Rattle.std.proofs.{Common.{None, ap, lit<, rules, ◌==◌, ◌∙◌}, lemmas.Iterator.Splits.YieldsList-from_str_split}
 use Rattle.std.proofs.lemmas.Iterator.Consumers.{YieldsList-at, YieldsList-from_filter_map}
-use Rattle.std.proofs.lemmas.Iterator.Splits.{YieldsList-from_str_split}
-use Rattle.headers_syntax.specs.Text.{trim}
-use Rattle.headers_lists.{specs.SecurityParts.age_of, proofs.SecurityLemmas.{reduced, only_age_is}}
 use Rattle.headers_lists.proofs.strict_transport_security.only_age.Goals as goal
 
 pub returns : goal.returns

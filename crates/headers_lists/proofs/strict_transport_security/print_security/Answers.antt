@@ -1,8 +1,7 @@
-use Rattle.std.proofs.Common.{rules, subst, sym}
-use Rattle.http_header.{specs.FieldValue.IsFieldValue, proofs.TokenLemmas.IsFieldValue-from_visible}
+use Rattle.{headers_lists.specs.StrictTransportSecurity.print_security, std.proofs.Common.{rules, subst, sym}}
+use Rattle.headers_lists.specs.StrictTransportSecurityLaws.{printed_text, value}
 use Rattle.headers_syntax.proofs.TextLemmas.{visible-from_is_text}
-use Rattle.headers_lists.{specs.StrictTransportSecurity.print_security, specs.StrictTransportSecurityLaws.value}
-use Rattle.headers_lists.specs.StrictTransportSecurityLaws.{printed_text}
+use Rattle.http_header.{proofs.TokenLemmas.IsFieldValue-from_visible, specs.FieldValue.IsFieldValue}
 use Rattle.headers_lists.proofs.strict_transport_security.print_security.Goals as goal
 
 pub returns-clause-text : goal.returns-clause-text

@@ -1,11 +1,9 @@
-use Rattle.std.proofs.Common.{rules, ◌≡◌, List, [], ◌∷◌, ◌++◌, length, sym, ◌∙◌, ap, inr, arith, length-append}
-use Rattle.std.{proofs.Common.append_assoc, proofs.lemmas.List.{append-nil, nil_from_length}}
-use Rattle.http_header.{specs.FieldValue.FieldValue, specs.HeaderMap.{Entries, get_all}}
-use Rattle.http_header.proofs.HeaderMapLemmas.{get_all-insert_same, get_all-insert_other, get_all-append_same}
-use Rattle.http_header.proofs.HeaderMapLemmas.{get_all-append_other}
-use Rattle.headers_syntax.specs.Lines.{lines_of}
-use Rattle.headers_map.proofs.InsertLemmas.{ContainsKey-from_values, put-from_parts, IsProperBeginning-from_left}
-use Rattle.headers_map.proofs.InsertLemmas.{OnErr-from, lines_some}
+use Rattle.headers_map.proofs.InsertLemmas.{ContainsKey-from_values, IsProperBeginning-from_left, OnErr-from}
+use Rattle.{headers_map.proofs.InsertLemmas.{lines_some, put-from_parts}, http_header.specs.FieldValue.FieldValue}
+use Rattle.{headers_syntax.specs.Lines.lines_of, std.proofs.{Common.◌≡◌, lemmas.List.{append-nil, nil_from_length}}}
+use Rattle.http_header.proofs.HeaderMapLemmas.{get_all-append_other, get_all-append_same, get_all-insert_other}
+use Rattle.http_header.{proofs.HeaderMapLemmas.get_all-insert_same, specs.HeaderMap.{Entries, get_all}}
+use Rattle.std.proofs.Common.{List, [], ap, append_assoc, arith, inr, length, length-append, rules, sym, ◌++◌, ◌∙◌, ◌∷◌}
 use Rattle.headers_map.proofs.insert.put_lines.Goals as goal
 
 pub returns-in_err-insert-clause-replaces : goal.returns-in_err-insert-clause-replaces

@@ -1,6 +1,5 @@
-use Rattle.std.proofs.Common.{ap, ◌∙◌}
-use Rattle.http_header.{specs.FieldValue.FieldValue, specs.HeaderMap.{Entries, get_all}}
-use Rattle.http_header.proofs.HeaderMapLemmas.{get_all-remove_other}
+use Rattle.http_header.{proofs.HeaderMapLemmas.get_all-remove_other, specs.{FieldValue.FieldValue, HeaderMap.Entries}}
+use Rattle.{http_header.specs.HeaderMap.get_all, std.proofs.Common.{ap, ◌∙◌}}
 use Rattle.headers_map.proofs.steps.remove_lines.Goals as goal
 
 pub returns-clause-others : goal.returns-clause-others

@@ -1,8 +1,7 @@
-use Rattle.std.{proofs.Common.{◌∷◌, ◌++◌, [], List, ℕ, refl, sym, ◌∙◌, ap, subst}, proofs.lemmas.List.map_push}
-use Rattle.std.specs.Iterator.{Drains}
-use Rattle.headers_syntax.specs.Lines.{lines_of}
-use Rattle.headers_items.proofs.CutAtLemmas.{lines_of_push}
-use Rattle.headers_names.proofs.RoundTripLemmas.{EachReads, EachReads-push, ListsValues-merged}
+use Rattle.{headers_items.proofs.CutAtLemmas.lines_of_push, headers_names.proofs.RoundTripLemmas.EachReads}
+use Rattle.headers_names.proofs.RoundTripLemmas.{EachReads-push, ListsValues-merged}
+use Rattle.{headers_syntax.specs.Lines.lines_of, std.proofs.Common.{List, [], ap, refl, subst, sym, ℕ, ◌++◌, ◌∙◌, ◌∷◌}}
+use Rattle.std.{proofs.lemmas.List.map_push, specs.Iterator.Drains}
 use Rattle.headers_names.proofs.list_item.list_of.Goals as goal
 
 pub loop-value-preserved : goal.loop-value-preserved

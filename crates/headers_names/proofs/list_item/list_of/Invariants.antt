@@ -1,6 +1,5 @@
-use Rattle.std.proofs.Common.{◌≡◌, map}
-use Rattle.headers_syntax.specs.Lines.{lines_of}
-use Rattle.headers_names.proofs.RoundTripLemmas.{EachReads}
+use Rattle.{headers_names.proofs.RoundTripLemmas.EachReads, headers_syntax.specs.Lines.lines_of, std.proofs.Common.map}
+use Rattle.std.proofs.Common.{◌≡◌}
 use Rattle.headers_names.proofs.list_item.list_of.Given as goal
 
 abbrev pub invariant-loop-value : goal.invariant-loop-value

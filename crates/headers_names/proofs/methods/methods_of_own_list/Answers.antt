@@ -1,7 +1,5 @@
-use Rattle.std.proofs.Common.{refl}
-use Rattle.http_header.specs.Token.{IsToken}
-use Rattle.headers_names.{specs.ListItem.method_of, specs.ListItemLaws.method_of-empty}
-use Rattle.headers_names.{proofs.ReadingLemmas.method-reads, proofs.RoundTripLemmas.IsListOf-own}
+use Rattle.headers_names.{proofs.{ReadingLemmas.method-reads, RoundTripLemmas.IsListOf-own}, specs.ListItem.method_of}
+use Rattle.{headers_names.specs.ListItemLaws.method_of-empty, http_header.specs.Token.IsToken, std.proofs.Common.refl}
 use Rattle.headers_names.proofs.methods.methods_of_own_list.Goals as goal
 
 pub returns : goal.returns

@@ -1,6 +1,5 @@
-use Rattle.std.proofs.Common.{◌≡◌, cond, Some, None, subst}
 use Rattle.headers_ranges.specs.ContentBytes.{ContentBytes, content_bytes, content_text, is_ordered}
-use Rattle.headers_ranges.specs.ContentRangeLaws.{content_read}
+use Rattle.{headers_ranges.specs.ContentRangeLaws.content_read, std.proofs.Common.{None, Some, cond, subst, ◌≡◌}}
 use Rattle.headers_ranges.proofs.content_range.content_ranges_read_back.Goals as goal
 
 pub returns : goal.returns

@@ -1,9 +1,8 @@
 -- The halves of a text, by the bytes.
-use Rattle.std.proofs.Common.{◌≡◌, ℕ, ◌<◌, ◌==◌, List, length, Option, Some, None, MatchOption}
-use Rattle.std.{specs.Prelude.option_map, specs.List.{before_first, after_first, position_or_len}}
+use Rattle.{headers_items.specs.Pairs.pair_shown, headers_ranges.specs.{Cut.cut, CutLaws.cut_is}}
+use Rattle.std.proofs.Common.{List, MatchOption, None, Option, Some, length, ℕ, ◌<◌, ◌==◌, ◌≡◌}
+use Rattle.std.specs.{List.{after_first, before_first, position_or_len}, Prelude.option_map}
 use denote.Ref.{Bor}
-use Rattle.headers_items.specs.Pairs.{pair_shown}
-use Rattle.headers_ranges.{specs.Cut.cut, specs.CutLaws.cut_is}
 use Rattle.headers_ranges.proofs.cut.cut_once.Goals as goal
 
 shown_cut : (c : ℕ) (s : List ℕ) (r : Option (Bor (List ℕ) × Bor (List ℕ)))

@@ -1,6 +1,5 @@
-use Rattle.std.proofs.Common.{sym, ◌∙◌, ap}
-use Rattle.headers_ranges.specs.ByteRanges.{pieces_left, plain_rest}
-use Rattle.headers_ranges.proofs.PieceLemmas.{piece_next, piece_last, cut_text}
+use Rattle.headers_ranges.{proofs.PieceLemmas.{cut_text, piece_last, piece_next}, specs.ByteRanges.pieces_left}
+use Rattle.{headers_ranges.specs.ByteRanges.plain_rest, std.proofs.Common.{ap, sym, ◌∙◌}}
 use Rattle.headers_ranges.proofs.satisfiable.next_piece.Goals as goal
 
 pub returns-in-Some-clause-steps : goal.returns-in-Some-clause-steps

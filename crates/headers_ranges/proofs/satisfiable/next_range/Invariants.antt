@@ -1,5 +1,4 @@
-use Rattle.std.proofs.Common.{◌≡◌, true, length}
-use Rattle.headers_ranges.specs.ByteRanges.{pieces_left, plain_rest, ranges_in}
+use Rattle.{headers_ranges.specs.ByteRanges.{pieces_left, plain_rest, ranges_in}, std.proofs.Common.{length, true, ◌≡◌}}
 use Rattle.headers_ranges.proofs.satisfiable.next_range.Given as goal
 
 abbrev pub invariant-loop-piece : goal.invariant-loop-piece

@@ -1,5 +1,4 @@
-use Rattle.std.proofs.Common.{◌∙◌}
-use Rattle.headers_ranges.proofs.PieceLemmas.{no_spec, spec_is}
+use Rattle.{headers_ranges.proofs.PieceLemmas.{no_spec, spec_is}, std.proofs.Common.◌∙◌}
 use Rattle.headers_ranges.proofs.satisfiable.spec_of.Goals as goal
 
 pub returns-in_err-first : goal.returns-in_err-first

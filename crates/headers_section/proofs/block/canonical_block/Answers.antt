@@ -1,11 +1,9 @@
-use Rattle.std.proofs.Common.{◌≡◌, ◌++◌, [], Some, refl, subst, sym, ap, ◌∙◌}
-use Rattle.http_header.specs.{StandardHeader.IsStandardName, Token.lowercase, HeaderMap.get_all}
-use Rattle.headers.specs.Lines.{lines_of}
-use Rattle.headers_section.specs.Printed.{block_printed}
-use Rattle.headers_section.specs.KnownHeaders.{caching_headers, content_headers, context_headers, security_headers}
-use Rattle.headers_section.specs.KnownHeaders.{known_headers}
-use Rattle.headers_section.proofs.KnownLemmas.{IsNoneOf, IfOk-behind, IsBlockAmong-behind}
-use Rattle.headers_section.proofs.{StandardLemmas.IsNoneOf-not_standard, block.canonical_block.Goals.Then-is_none}
+use Rattle.{headers.specs.Lines.lines_of, std.proofs.Common.{Some, [], ap, refl, subst, sym, ◌++◌, ◌∙◌, ◌≡◌}}
+use Rattle.headers_section.proofs.KnownLemmas.{IfOk-behind, IsBlockAmong-behind, IsNoneOf}
+use Rattle.headers_section.{proofs.StandardLemmas.IsNoneOf-not_standard, specs.Printed.block_printed}
+use Rattle.headers_section.{proofs.block.canonical_block.Goals.Then-is_none, specs.KnownHeaders.security_headers}
+use Rattle.headers_section.specs.KnownHeaders.{caching_headers, content_headers, context_headers, known_headers}
+use Rattle.http_header.specs.{HeaderMap.get_all, StandardHeader.IsStandardName, Token.lowercase}
 use Rattle.headers_section.proofs.block.canonical_block.Goals as goal
 
 -- the name is not standard

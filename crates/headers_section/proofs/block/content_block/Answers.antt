@@ -1,8 +1,6 @@
-use Rattle.std.proofs.Common.{◌++◌, subst}
-use Rattle.http_header.specs.HeaderMap.{get_all}
-use Rattle.headers.specs.Lines.{lines_of}
-use Rattle.headers_section.{specs.Printed.block_printed, specs.KnownHeaders.{content_headers, context_headers}}
-use Rattle.headers_section.{specs.KnownHeaders.security_headers, proofs.KnownLemmas.{IsNoneOf, IfOk-behind}}
+use Rattle.{headers.specs.Lines.lines_of, http_header.specs.HeaderMap.get_all, std.proofs.Common.{subst, ◌++◌}}
+use Rattle.headers_section.{proofs.KnownLemmas.{IfOk-behind, IsNoneOf}, specs.Printed.block_printed}
+use Rattle.headers_section.specs.KnownHeaders.{content_headers, context_headers, security_headers}
 use Rattle.headers_section.proofs.block.content_block.Goals as goal
 
 pub returns-in_default : goal.returns-in_default

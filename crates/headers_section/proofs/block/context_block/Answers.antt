@@ -1,8 +1,6 @@
-use Rattle.std.proofs.Common.{subst}
-use Rattle.http_header.specs.HeaderMap.{get_all}
-use Rattle.headers.specs.Lines.{lines_of}
-use Rattle.headers_section.specs.{Printed.block_printed, KnownHeaders.context_headers, KnownHeaders.security_headers}
-use Rattle.headers_section.proofs.KnownLemmas.{IsNoneOf, IfOk-behind}
+use Rattle.{headers.specs.Lines.lines_of, headers_section.proofs.KnownLemmas.{IfOk-behind, IsNoneOf}}
+use Rattle.headers_section.specs.{KnownHeaders.{context_headers, security_headers}, Printed.block_printed}
+use Rattle.{http_header.specs.HeaderMap.get_all, std.proofs.Common.subst}
 use Rattle.headers_section.proofs.block.context_block.Goals as goal
 
 pub returns-in_default : goal.returns-in_default

@@ -1,6 +1,4 @@
-use Rattle.std.proofs.Common.{◌≡◌, ◌++◌}
-use Rattle.http_header.specs.HeaderMap.{get_all}
-use Rattle.headers.specs.Lines.{lines_of}
+use Rattle.{headers.specs.Lines.lines_of, http_header.specs.HeaderMap.get_all, std.proofs.Common.{◌++◌, ◌≡◌}}
 use Rattle.headers_section.proofs.block.kept_lines.Given as goal
 
 abbrev pub invariant-loop-value : goal.invariant-loop-value

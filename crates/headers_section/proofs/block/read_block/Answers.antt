@@ -1,7 +1,5 @@
-use Rattle.std.proofs.Common.{List, Some, subst, sym}
-use Rattle.http_header.specs.HeaderMap.{get_all}
-use Rattle.headers.specs.Lines.{Line, lines_of}
-use Rattle.headers_section.specs.CanonicalText.{IsBlock}
+use Rattle.{headers.specs.Lines.{Line, lines_of}, headers_section.specs.CanonicalText.IsBlock}
+use Rattle.{http_header.specs.HeaderMap.get_all, std.proofs.Common.{List, Some, subst, sym}}
 use Rattle.headers_section.proofs.block.read_block.Goals as goal
 
 pub returns-in_ok-kept_lines-in-Kept-clause-block : goal.returns-in_ok-kept_lines-in-Kept-clause-block

@@ -1,7 +1,5 @@
-use Rattle.std.proofs.Common.{[], Some, refl}
-use Rattle.http_header.specs.HeaderMap.{get_all}
-use Rattle.headers.specs.Lines.{lines_of}
-use Rattle.headers_section.{specs.KnownHeaders.security_headers, proofs.KnownLemmas.{IsNoneOf, IsBlockAmong-behind}}
+use Rattle.{headers.specs.Lines.lines_of, http_header.specs.HeaderMap.get_all, std.proofs.Common.{Some, [], refl}}
+use Rattle.headers_section.{proofs.KnownLemmas.{IsBlockAmong-behind, IsNoneOf}, specs.KnownHeaders.security_headers}
 use Rattle.headers_section.proofs.block.security_block.Goals as goal
 
 pub returns-in_default : goal.returns-in_default

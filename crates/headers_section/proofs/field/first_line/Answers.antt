@@ -1,8 +1,7 @@
-use Rattle.std.proofs.Common.{◌≡◌, ◌∙◌, ◌∷◌, ◌<◌, ap, sym, length, take, drop, arith}
-use Rattle.std.proofs.{lemmas.List.nil_from_length, lemmas.Bool.Decides.nat_tests}
-use Rattle.headers.specs.Lines.{Line}
-use Rattle.headers_section.specs.Section.{without_return, section}
-use Rattle.headers_section.proofs.SectionLemmas.{section-some, section-none, without_return-front}
+use Rattle.{headers.specs.Lines.Line, headers_section.proofs.SectionLemmas.{section-none, section-some}}
+use Rattle.headers_section.{proofs.SectionLemmas.without_return-front, specs.Section.{section, without_return}}
+use Rattle.std.proofs.{Common.{ap, arith, drop, length, sym, take, ◌<◌, ◌∙◌, ◌∷◌, ◌≡◌}, lemmas.Bool.Decides.nat_tests}
+use Rattle.std.proofs.lemmas.List.{nil_from_length}
 use Rattle.headers_section.proofs.field.first_line.Goals as goal
 
 pub returns-then-is_empty-clause-none : goal.returns-then-is_empty-clause-none

@@ -1,5 +1,4 @@
-use Rattle.std.proofs.Common.{List, length}
-use Rattle.headers_section.{specs.Section.Field, proofs.ReadLemmas.IsRead}
+use Rattle.{headers_section.{proofs.ReadLemmas.IsRead, specs.Section.Field}, std.proofs.Common.{List, length}}
 use Rattle.headers_section.proofs.field.has_only_fields.Given as goal
 
 abbrev pub invariant-loop-cut : goal.invariant-loop-cut

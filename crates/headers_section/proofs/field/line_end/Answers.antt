@@ -1,7 +1,6 @@
-use Rattle.std.{proofs.Common.{◌∙◌, ◌∷◌, List, ℕ, ap, refl, sym, length, take, arith}, specs.List.take_while}
-use Rattle.std.proofs.lemmas.List.{take_all, drop_all}
-use Rattle.headers_section.specs.Section.{without_return, is_filled, input_lines}
 use Rattle.headers_section.proofs.SectionLemmas.{input_lines-none, input_lines-some, section-last}
+use Rattle.{headers_section.specs.Section.{input_lines, is_filled, without_return}, std.specs.List.take_while}
+use Rattle.std.proofs.{Common.{List, ap, arith, length, refl, sym, take, ℕ, ◌∙◌, ◌∷◌}, lemmas.List.{drop_all, take_all}}
 use Rattle.headers_section.proofs.field.line_end.Goals as goal
 
 pub returns-in-Some-clause-first : goal.returns-in-Some-clause-first

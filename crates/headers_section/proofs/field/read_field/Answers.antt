@@ -1,9 +1,7 @@
-use Rattle.std.{proofs.Common.{◌≡◌, ◌∙◌, Err, List, ℕ, ◌+◌, ap, sym, subst, refl}, specs.List.slice_range}
-use Rattle.http_header.{specs.declared.name.HeaderNameError.HeaderNameError, specs.FieldValue.IsFieldValue}
-use Rattle.http_header.specs.FieldValue.{plain_value}
-use Rattle.headers.specs.Text.{trim}
-use Rattle.headers_section.proofs.FieldLemmas.{HasFirstColon, IsNoField-without_colon, IsNoField-without_name}
-use Rattle.headers_section.proofs.FieldLemmas.{IsNoField-without_value, IsField-from_parts}
+use Rattle.{headers.specs.Text.trim, headers_section.proofs.FieldLemmas.{HasFirstColon, IsField-from_parts}}
+use Rattle.headers_section.proofs.FieldLemmas.{IsNoField-without_colon, IsNoField-without_name, IsNoField-without_value}
+use Rattle.http_header.specs.{FieldValue.{IsFieldValue, plain_value}, declared.name.HeaderNameError.HeaderNameError}
+use Rattle.std.{proofs.Common.{Err, List, ap, refl, subst, sym, ℕ, ◌+◌, ◌∙◌, ◌≡◌}, specs.List.slice_range}
 use Rattle.headers_section.proofs.field.read_field.Goals as goal
 
 -- the trimmed part of the bytes, which was found in a slice of them

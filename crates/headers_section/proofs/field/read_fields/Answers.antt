@@ -1,9 +1,8 @@
-use Rattle.std.proofs.Common.{◌≡◌, ◌∷◌, Err, List, ℕ, take, drop, ap}
-use Rattle.http_header.specs.declared.map.HeaderMapError.{HeaderMapError}
-use Rattle.headers_section.specs.Section.{section}
-use Rattle.headers_section.proofs.ReadLemmas.{IsCollected-none, IsCollected-more, Holds-from_collected}
-use Rattle.headers_section.proofs.ReadLemmas.{ListsNames-from_collected, fits-from_collected, HasNoField-from_line}
-use Rattle.headers_section.proofs.ReadLemmas.{HasTooManyFields-from_collected, HasNoField-from_behind}
+use Rattle.headers_section.proofs.ReadLemmas.{HasNoField-from_behind, HasNoField-from_line}
+use Rattle.headers_section.proofs.ReadLemmas.{HasTooManyFields-from_collected, Holds-from_collected, IsCollected-more}
+use Rattle.headers_section.proofs.ReadLemmas.{IsCollected-none, ListsNames-from_collected, fits-from_collected}
+use Rattle.{headers_section.specs.Section.section, http_header.specs.declared.map.HeaderMapError.HeaderMapError}
+use Rattle.std.proofs.Common.{Err, List, ap, drop, take, ℕ, ◌∷◌, ◌≡◌}
 use Rattle.headers_section.proofs.field.read_fields.Goals as goal
 
 -- the first line of what is left, which was cut from a slice of it

@@ -1,5 +1,4 @@
-use Rattle.std.proofs.Common.{length}
-use Rattle.headers_section.proofs.ReadLemmas.{IsCollected}
+use Rattle.{headers_section.proofs.ReadLemmas.IsCollected, std.proofs.Common.length}
 use Rattle.headers_section.proofs.field.read_fields.Given as goal
 
 abbrev pub invariant-loop-cut : goal.invariant-loop-cut

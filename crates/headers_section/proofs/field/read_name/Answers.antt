@@ -1,5 +1,4 @@
-use Rattle.std.proofs.Common.{◌≡◌, ◌∙◌, ◌-◌, ℕ, take, ap, arith}
-use Rattle.headers_section.proofs.FieldLemmas.{OnOk-field_name}
+use Rattle.{headers_section.proofs.FieldLemmas.OnOk-field_name, std.proofs.Common.{ap, arith, take, ℕ, ◌-◌, ◌∙◌, ◌≡◌}}
 use Rattle.headers_section.proofs.field.read_name.Goals as goal
 
 pub returns-in_ok-slice-in-None-clause-valid : goal.returns-in_ok-slice-in-None-clause-valid

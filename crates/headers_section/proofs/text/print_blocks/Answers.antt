@@ -1,14 +1,12 @@
-use Rattle.std.proofs.Common.{◌≡◌, ◌∙◌, ◌<◌, ◌++◌, ◌||◌, List, ℕ, Vec, Global, is_none, flat_map, length, ap, sym}
-use Rattle.std.proofs.Math.Bool.{or-true, or-false}
-use Rattle.http_header.specs.{FieldValue.FieldValue, HeaderMap.get_all}
 use Rattle.headers.specs.Lines.{lines_of}
-use Rattle.headers_section.specs.CanonicalText.{Block, block_text, line_text}
-use Rattle.headers_section.specs.{declared.block.Printed.Printed, Printed.block_printed}
-use Rattle.headers_section.specs.declared.block.Printed.TheVariants.{Encoded, Rejected, Kept}
-use Rattle.headers_section.proofs.BlockLemmas.{HasBlocks-start, HasBlocks-more, HasBlocks-all}
+use Rattle.headers_section.proofs.BlockLemmas.{HasBlocks-all, HasBlocks-more, HasBlocks-start}
 use Rattle.headers_section.proofs.text.print_blocks.Goals.{in-Encoded+in_ok-print_lines-in-Encoded}
-use Rattle.headers_section.proofs.text.print_blocks.Goals.{in-Rejected+in_ok-print_refusal-in-Rejected}
 use Rattle.headers_section.proofs.text.print_blocks.Goals.{in-Kept+in_ok-print_values-in-Kept}
+use Rattle.headers_section.proofs.text.print_blocks.Goals.{in-Rejected+in_ok-print_refusal-in-Rejected}
+use Rattle.headers_section.specs.{CanonicalText.{Block, block_text, line_text}, Printed.block_printed}
+use Rattle.headers_section.specs.declared.block.Printed.{Printed, TheVariants.{Encoded, Kept, Rejected}}
+use Rattle.{http_header.specs.{FieldValue.FieldValue, HeaderMap.get_all}, std.proofs.Math.Bool.{or-false, or-true}}
+use Rattle.std.proofs.Common.{Global, List, Vec, ap, flat_map, is_none, length, sym, ℕ, ◌++◌, ◌<◌, ◌||◌, ◌∙◌, ◌≡◌}
 use Rattle.headers_section.proofs.text.print_blocks.Goals as goal
 
 pub loop-name-init : goal.loop-name-init

@@ -1,7 +1,5 @@
-use Rattle.std.proofs.Common.{take}
-use Rattle.http_header.specs.HeaderMap.{get_all}
-use Rattle.headers.specs.Lines.{lines_of}
-use Rattle.headers_section.specs.CanonicalText.{HasBlocks}
+use Rattle.{headers.specs.Lines.lines_of, headers_section.specs.CanonicalText.HasBlocks}
+use Rattle.{http_header.specs.HeaderMap.get_all, std.proofs.Common.take}
 use Rattle.headers_section.proofs.text.print_blocks.Given as goal
 
 abbrev pub invariant-loop-name : goal.invariant-loop-name

@@ -1,6 +1,5 @@
-use Rattle.std.proofs.Common.{◌≡◌, ◌++◌, take, flat_map}
-use Rattle.headers.specs.Lines.{lines_of}
-use Rattle.headers_section.specs.CanonicalText.{line_text}
+use Rattle.{headers.specs.Lines.lines_of, headers_section.specs.CanonicalText.line_text, std.proofs.Common.flat_map}
+use Rattle.std.proofs.Common.{take, ◌++◌, ◌≡◌}
 use Rattle.headers_section.proofs.text.print_lines.Given as goal
 
 abbrev pub invariant-loop-line : goal.invariant-loop-line

@@ -1,7 +1,5 @@
-use Rattle.std.proofs.Common.{◌≡◌, ◌++◌, flat_map}
-use Rattle.http_header.specs.HeaderMap.{get_all}
-use Rattle.headers.specs.Lines.{lines_of}
-use Rattle.headers_section.specs.CanonicalText.{line_text}
+use Rattle.{headers.specs.Lines.lines_of, headers_section.specs.CanonicalText.line_text}
+use Rattle.{http_header.specs.HeaderMap.get_all, std.proofs.Common.{flat_map, ◌++◌, ◌≡◌}}
 use Rattle.headers_section.proofs.text.print_values.Given as goal
 
 abbrev pub invariant-loop-value : goal.invariant-loop-value

@@ -1,6 +1,5 @@
-use Rattle.std.proofs.Common.{ℕ, Some, arith, subst, rules}
-use Rattle.headers.specs.LineMap.{lines_at}
-use Rattle.headers_user.specs.Forward.{HasHops}
+use Rattle.{headers.specs.LineMap.lines_at, headers_user.specs.Forward.HasHops, std.proofs.Common.{Some, arith, rules}}
+use Rattle.std.proofs.Common.{subst, ℕ}
 use Rattle.headers_user.proofs.forwarding.forward.Goals as goal
 
 pub returns-in_ok-apply-in-Some-clause-ok : goal.returns-in_ok-apply-in-Some-clause-ok

@@ -1,29 +1,24 @@
 -- `into_raw_box` moves the pointer, and what the handle owned goes with it. Assumes `Logic`.
-use Rattle.std.{proofs.Common.{◌≡◌, List, [], ◌∷◌, ◌++◌, refl}, specs.Prelude.{◌≢◌, Option, Some, None}}
-use mir.Syntax.{Fn, a_type}
-use mir.Raw.{raw as bare}
-use mir.{Val.{Val, vptr}, MapTy.inst_fn}
-use base.Logic.{SProp, emp, never, fst∗}
-use prog.Wp.{WpFn}
+use Rattle.c_parts.proofs.HandleValues.{al, both, lone_told, lone_typed, lone_val, loose_good, loose_in, some_of}
+use Rattle.c_parts.{proofs.loose.Loose.into_raw_box.Statement.statement, specs.Ownership.{global, handle_owns}}
+use Rattle.c_parts.specs.contracts.loose.Loose.into_raw_box.{Key.name as #self, clauses, ended}
+use Rattle.{core.proofs.alloc.Calls.{Goes-blank, handle_tells}, std.proofs.Common.{List, [], refl, ◌++◌, ◌∷◌, ◌≡◌}}
+use Rattle.std.{proofs.raw_atomic.Walks.{leaves, proved_at}, specs.Prelude.{None, Option, Some, ◌≢◌}}
+use Rattle.{std_alloc.specs.Box.Ownership.box_owns, std_heap.specs.contracts.GlobalAllocator.TheImpl.ghosts}
+use base.Logic.{SProp, emp, fst∗, never}
 use contract.{BorrowLft.◌⊑◌, Monad.{fact, fact_i}, Running.tables}
-use types.{Logic.sem, Kit.{rewrite, ‵, raw, ◌⊛◌, prop, ◌$◌, ◌∵◌, !, qed, by, move, keep, drop, use0, split, regoal}}
-use types.{Kit.{fsplit, fjoin}, Part.{whole, sub, agg}, Run.{stop, fld, of_opd, no_more, and_then, returns, enter}}
-use types.ByLocal.{alloc_all, pass_all, free_all, look_at, get, get_in, sets}
-use denote.{RattleType.{RattleType, owns}, RawPtr.{Ptr, block_ptr, null_ptr, in_a_block}, Memory.lone, Param.param}
-use denote.{Param.layouts, Signature.{types_at, plain}, Steps.{nothing, heard}, Triple.{Entry.alive, Walked.Stays}}
+use denote.{Memory.lone, Param.{layouts, param}, RattleType.{RattleType, owns}, RawPtr.{Ptr, block_ptr, in_a_block}}
+use denote.{RawPtr.null_ptr, Signature.{plain, types_at}, Steps.{heard, nothing}, Triple.{Entry.alive, Walked.Stays}}
 use denote.Triple.Walked.{stay_dropped, walk_of}
-use Rattle.{core.proofs.alloc.Calls.{Goes-blank, handle_tells}, std.proofs.raw_atomic.Walks.{proved_at, leaves}}
-use Rattle.std_alloc.specs.Box.Ownership.{box_owns}
+use mir.{MapTy.inst_fn, Raw.raw as bare, Syntax.{Fn, a_type}, Val.{Val, vptr}}
+use prog.Wp.{WpFn}
+use types.{ByLocal.{alloc_all, free_all, get, get_in, look_at, pass_all, sets}, Kit.{!, by, drop, fjoin, fsplit, keep}}
+use types.{Kit.{move, prop, qed, raw, regoal, rewrite, split, use0, ‵, ◌$◌, ◌∵◌, ◌⊛◌}, Logic.sem, Part.{agg, sub}}
+use types.{Part.whole, Run.{and_then, enter, fld, no_more, of_opd, returns, stop}}
 use Rattle.std_heap.specs.contracts.Global as Heap
-use Rattle.std_heap.specs.contracts.GlobalAllocator.TheImpl.{ghosts}
 use Rattle.std_heap.proofs.Global.TheLaws as heap
-use Rattle.c_parts.specs.Ownership.{global, handle_owns}
 use Rattle.c_parts.specs.contracts.raw_box.RawBox as raw_box
 use Rattle.c_parts.specs.contracts.loose.Loose as loose
-use Rattle.c_parts.proofs.HandleValues.{al, some_of, both, loose_good, loose_in, lone_val, lone_told, lone_typed}
-use Rattle.c_parts.specs.contracts.loose.Loose.into_raw_box.{ended, clauses}
-use Rattle.c_parts.specs.contracts.loose.Loose.into_raw_box.Key.{name as #self}
-use Rattle.c_parts.proofs.loose.Loose.into_raw_box.Statement.{statement}
 use Rattle.c_parts.proofs.loose.Loose.into_raw_box.Code as compiled
 
 pub into_raw_box_spec : {M : Type 1} → statement M

@@ -1,25 +1,23 @@
 -- `into_box` makes the box again.
-use Rattle.{std.proofs.Common.{◌≡◌, List, [], ◌∷◌, ◌++◌, refl, sym, ap, subst}, core.proofs.alloc.Calls.Goes-blank}
-use Rattle.core.proofs.{alloc.Shapes.after, atomic.Steps.fm, cell.Inside.Good}
-use mir.{Syntax.{a_type, dcons, dnil}, Val.{Val, vptr}, MapTy.inst_fn}
-use base.{Logic.{SProp, ent, id⊢}, Fml.{ftrue, flft}}
-use prog.Wp.{WpFn}
-use types.Kit.{‵, raw, ◌⊛◌, some, later, at_ret, ◌$◌, ◌∵◌, !, qed, by, move, keep, drop, split, split3, join, fsplit}
-use types.{Kit.{fjoin, pick, suffices, use1, await, rewrite, feq_i}, Run.{stop, fld, of_opd, no_more, and_then, first}}
-use types.{Run.{blocks, exec, returns, enter}, ByLocal.{alloc_all, pass_all, free_all, look_at, get, get_in, sets}}
-use types.{ByLocal.{lands_last, env}, Part.{sub, whole}}
-use contract.{Monad.fact, BorrowLft.◌⊑◌, Running.tables}
-use denote.{Exit.no, RattleType.{RattleType, owns}, Signature.{types_at, plain}, RawPtr.block_ptr, Steps.nothing}
-use denote.{Steps.only, Param.{param, layout, bounded, Laws.param_laws}, Triple.Clauses.{Lasts, lasts}}
-use denote.Triple.{Spec.triple_of, Call.calls_at_last, Walked.{Stays, stay_dropped, walk_of}}
-use Rattle.std_alloc.proofs.BoxSteps.Form as box
-use Rattle.{std_alloc.proofs.BoxSteps.Steps.{box_out, box_in}, std.proofs.raw_atomic.Walks.{proved_at, leaves}}
-use Rattle.c_parts.proofs.HandleValues.{both, Loose, loose_good, loose_out}
-use Rattle.std_alloc.specs.contracts.boxed.Box.from_raw as callee
-use Rattle.std_alloc.proofs.boxed.Box.from_raw.Met.{met}
-use Rattle.c_parts.specs.contracts.raw_box.RawBox.into_box.{ended, clauses}
-use Rattle.c_parts.specs.contracts.raw_box.RawBox.into_box.Key.{name as #self}
+use Rattle.c_parts.proofs.HandleValues.{Loose, both, loose_good, loose_out}
 use Rattle.c_parts.proofs.raw_box.RawBox.into_box.Statement.{statement}
+use Rattle.c_parts.specs.contracts.raw_box.RawBox.into_box.{Key.name as #self, clauses, ended}
+use Rattle.core.proofs.{alloc.{Calls.Goes-blank, Shapes.after}, atomic.Steps.fm, cell.Inside.Good}
+use Rattle.std.proofs.{Common.{List, [], ap, refl, subst, sym, ◌++◌, ◌∷◌, ◌≡◌}, raw_atomic.Walks.{leaves, proved_at}}
+use Rattle.std_alloc.proofs.{BoxSteps.Steps.{box_in, box_out}, boxed.Box.from_raw.Met.met}
+use base.{Fml.{flft, ftrue}, Logic.{SProp, ent, id⊢}}
+use contract.{BorrowLft.◌⊑◌, Monad.fact, Running.tables}
+use denote.{Exit.no, Param.{Laws.param_laws, bounded, layout, param}, RattleType.{RattleType, owns}, RawPtr.block_ptr}
+use denote.{Signature.{plain, types_at}, Steps.{nothing, only}, Triple.{Call.calls_at_last, Clauses.{Lasts, lasts}}}
+use denote.Triple.{Spec.triple_of, Walked.{Stays, stay_dropped, walk_of}}
+use mir.{MapTy.inst_fn, Syntax.{a_type, dcons, dnil}, Val.{Val, vptr}}
+use prog.Wp.{WpFn}
+use types.{ByLocal.{alloc_all, env, free_all, get, get_in, lands_last, look_at, pass_all, sets}, Kit.{!, at_ret, await}}
+use types.Kit.{by, drop, feq_i, fjoin, fsplit, join, keep, later, move, pick, qed, raw, rewrite, some, split, split3}
+use types.{Kit.{suffices, use1, ‵, ◌$◌, ◌∵◌, ◌⊛◌}, Part.{sub, whole}, Run.{and_then, blocks, enter, exec, first, fld}}
+use types.Run.{no_more, of_opd, returns, stop}
+use Rattle.std_alloc.proofs.BoxSteps.Form as box
+use Rattle.std_alloc.specs.contracts.boxed.Box.from_raw as callee
 use Rattle.c_parts.proofs.raw_box.RawBox.into_box.Code as code
 
 pub into_box_spec : {M : Type 1} → statement M

@@ -1,29 +1,23 @@
 -- `of` takes the box apart.
-use Rattle.std.proofs.Common.{◌≡◌, List, [], ◌∷◌, ◌++◌, refl, sym, ap, ◌∙◌, subst}
-use mir.Syntax.{a_type, dcons, dnil}
-use mir.Raw.{raw as bare}
-use mir.{Val.{Val, vptr, vstruct, of_list}, MapTy.inst_fn}
-use base.{Logic.{SProp, ent, emp, never, id⊢, fst∗}, Fml.{ftrue, fsep, flft}}
-use prog.Wp.{WpFn}
-use types.{Logic.sem, Kit.{‵, raw, ◌⊛◌, some, later, ◌$◌, ◌∵◌, !, qed, by, move, keep, drop, split, split3, join}}
-use types.{Kit.{fsplit, fjoin, fpick, pick, suffices, use0, use1, await, rewrite, feq_l}, Run.{stop, fld, of_opd}}
-use types.{Run.{no_more, and_then, returns, enter}, ByLocal.{alloc_all, pass_all, free_all, look_at, get, get_in, sets}}
-use types.{ByLocal.lands_as, Part.{agg, sub, whole}}
-use contract.{Monad.{fact, fact_i}, Running.tables}
-use denote.{Exit.no, RattleType.{RattleType, owns}, Signature.{types_at, plain}, Builtin.RawPtr, RawPtr.Ptr}
-use denote.{RawPtr.{block_ptr, null_ptr, ptr_val, in_a_block}, Steps.{nothing, only, heard}, Param.{param, layout}}
-use denote.{Param.{bounded, Laws.param_laws}, Struct.Tuple.Tuple, Triple.{Spec.triple_of, Call.calls_at, Walked.Stays}}
-use denote.Triple.Walked.{stay_dropped, walk_of}
+use Rattle.c_parts.proofs.{HandleValues.{both, loose_good, loose_in}, raw_box.RawBox.of.Statement.statement}
+use Rattle.c_parts.specs.contracts.raw_box.RawBox.of.{Key.name as #self, clauses, ended}
 use Rattle.core.proofs.{alloc.Calls.{Goes-blank, handle_tells}, atomic.Steps.fm}
-use Rattle.std_alloc.specs.Box.Ownership.{box_owns}
+use Rattle.std.proofs.Common.{List, [], ap, refl, subst, sym, ◌++◌, ◌∙◌, ◌∷◌, ◌≡◌}
+use Rattle.{std.proofs.raw_atomic.Walks.{leaves, proved_at}, std_alloc.proofs.BoxSteps.Steps.{box_in, box_out}}
+use Rattle.std_alloc.{proofs.boxed.Box.into_raw_with_allocator.Met.met, specs.Box.Ownership.box_owns}
+use base.{Fml.{flft, fsep, ftrue}, Logic.{SProp, emp, ent, fst∗, id⊢, never}}
+use contract.{Monad.{fact, fact_i}, Running.tables}
+use denote.{Builtin.RawPtr, Exit.no, Param.{Laws.param_laws, bounded, layout, param}, RattleType.{RattleType, owns}}
+use denote.{RawPtr.{Ptr, block_ptr, in_a_block, null_ptr, ptr_val}, Signature.{plain, types_at}, Struct.Tuple.Tuple}
+use denote.{Steps.{heard, nothing, only}, Triple.{Call.calls_at, Spec.triple_of, Walked.{Stays, stay_dropped, walk_of}}}
+use mir.{MapTy.inst_fn, Raw.raw as bare, Syntax.{a_type, dcons, dnil}, Val.{Val, of_list, vptr, vstruct}}
+use prog.Wp.{WpFn}
+use types.{ByLocal.{alloc_all, free_all, get, get_in, lands_as, look_at, pass_all, sets}, Logic.sem}
+use types.Kit.{!, await, by, drop, feq_l, fjoin, fpick, fsplit, join, keep, later, move, pick, qed, raw, rewrite, some}
+use types.{Kit.{split, split3, suffices, use0, use1, ‵, ◌$◌, ◌∵◌, ◌⊛◌}, Part.{agg, sub, whole}}
+use types.Run.{and_then, enter, fld, no_more, of_opd, returns, stop}
 use Rattle.std_alloc.proofs.BoxSteps.Form as box
-use Rattle.{std_alloc.proofs.BoxSteps.Steps.{box_out, box_in}, std.proofs.raw_atomic.Walks.{proved_at, leaves}}
-use Rattle.c_parts.proofs.HandleValues.{both, loose_good, loose_in}
 use Rattle.std_alloc.specs.contracts.boxed.Box.into_raw_with_allocator as callee
-use Rattle.std_alloc.proofs.boxed.Box.into_raw_with_allocator.Met.{met}
-use Rattle.c_parts.specs.contracts.raw_box.RawBox.of.{ended, clauses}
-use Rattle.c_parts.specs.contracts.raw_box.RawBox.of.Key.{name as #self}
-use Rattle.c_parts.proofs.raw_box.RawBox.of.Statement.{statement}
 use Rattle.c_parts.proofs.raw_box.RawBox.of.Code as code
 
 pub of_spec : {M : Type 1} → statement M

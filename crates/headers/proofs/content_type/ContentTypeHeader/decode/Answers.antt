@@ -1,5 +1,4 @@
-use Rattle.headers_syntax.proofs.OfLinesLemmas.{OfLines-weaker}
-use Rattle.headers.proofs.ContentTypeLemmas.{decodes_first}
+use Rattle.{headers.proofs.ContentTypeLemmas.decodes_first, headers_syntax.proofs.OfLinesLemmas.OfLines-weaker}
 use Rattle.headers.proofs.content_type.ContentTypeHeader.decode.Goals as goal
 
 pub returns-clause-value : goal.returns-clause-value

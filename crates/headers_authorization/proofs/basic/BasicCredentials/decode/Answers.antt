@@ -1,8 +1,7 @@
-use Rattle.std.{proofs.Common.{◌≡◌, List, ℕ, Some, sym, ◌∙◌, ap, subst, arith}, specs.Prelude.IsUtf8}
-use Rattle.std.{specs.String.string_bytes, proofs.lemmas.Str.IsUtf8-string_bytes}
-use Rattle.base64.specs.GeneralPurpose.{IsBytes}
-use Rattle.memchr.specs.Find.{IsFirstByte, is_byte}
-use Rattle.headers_authorization.{specs.Basic.colon, proofs.BasicLemmas.{encoded_rest, encoded_bytes}}
+use Rattle.{base64.specs.GeneralPurpose.IsBytes, headers_authorization.proofs.BasicLemmas.{encoded_bytes, encoded_rest}}
+use Rattle.{headers_authorization.specs.Basic.colon, memchr.specs.Find.{IsFirstByte, is_byte}, std.proofs.Common.List}
+use Rattle.std.proofs.{Common.{Some, ap, arith, subst, sym, ℕ, ◌∙◌, ◌≡◌}, lemmas.Str.IsUtf8-string_bytes}
+use Rattle.std.specs.{Prelude.IsUtf8, String.string_bytes}
 use Rattle.headers_authorization.proofs.basic.BasicCredentials.decode.Goals as goal
 
 pub returns-in_default-from_utf8 : goal.returns-in_default-from_utf8

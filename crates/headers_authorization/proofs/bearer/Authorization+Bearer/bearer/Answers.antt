@@ -1,6 +1,5 @@
-use Rattle.std.proofs.Common.{◌≡◌, ℕ, List, ◌++◌, codes, ◌∙◌, ap, subst}
-use Rattle.http_header.specs.FieldValue.{IsFieldValue}
-use Rattle.headers_authorization.specs.Bearer.{bearer_line}
+use Rattle.{headers_authorization.specs.Bearer.bearer_line, http_header.specs.FieldValue.IsFieldValue}
+use Rattle.std.proofs.Common.{List, ap, codes, subst, ℕ, ◌++◌, ◌∙◌, ◌≡◌}
 use Rattle.headers_authorization.proofs.bearer.Authorization+Bearer.bearer.Goals as goal
 
 -- the text that was put together

@@ -1,5 +1,4 @@
-use Rattle.std.proofs.Common.{sym, arith}
-use Rattle.headers_caching.proofs.CacheLemmas.{cut_taken, uncut_good, uncut_taken}
+use Rattle.{headers_caching.proofs.CacheLemmas.{cut_taken, uncut_good, uncut_taken}, std.proofs.Common.{arith, sym}}
 use Rattle.headers_caching.proofs.cache_control.CacheControl.add_entry.Goals as goal
 
 pub returns-in_default-clause-ok : goal.returns-in_default-clause-ok

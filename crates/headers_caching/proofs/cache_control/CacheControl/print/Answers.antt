@@ -1,7 +1,6 @@
-use Rattle.std.proofs.Common.{refl, sym, ◌∙◌, subst, arith}
-use Rattle.http_header.specs.FieldValue.{IsFieldValue}
-use Rattle.headers_caching.{specs.CacheControl.printed, specs.CacheControlLaws.printed_pieces}
-use Rattle.headers_caching.proofs.AppendLemmas.{printed_text, merge_IsFieldValue}
+use Rattle.headers_caching.{proofs.AppendLemmas.{merge_IsFieldValue, printed_text}, specs.CacheControl.printed}
+use Rattle.{headers_caching.specs.CacheControlLaws.printed_pieces, http_header.specs.FieldValue.IsFieldValue}
+use Rattle.std.proofs.Common.{arith, refl, subst, sym, ◌∙◌}
 use Rattle.headers_caching.proofs.cache_control.CacheControl.print.Goals as goal
 
 pub returns-clause-text : goal.returns-clause-text

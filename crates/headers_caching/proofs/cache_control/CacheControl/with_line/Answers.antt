@@ -1,6 +1,5 @@
-use Rattle.std.proofs.Common.{◌∙◌, ap}
-use Rattle.headers_items.{specs.Entries.line_entries, specs.ItemsState.{ItemsState, entries_left}}
-use Rattle.headers_caching.proofs.LineLemmas.{ReadSoFar-none, ReadSoFar-more}
+use Rattle.{headers_caching.proofs.LineLemmas.{ReadSoFar-more, ReadSoFar-none}, std.proofs.Common.{ap, ◌∙◌}}
+use Rattle.headers_items.specs.{Entries.line_entries, ItemsState.{ItemsState, entries_left}}
 use Rattle.headers_caching.proofs.cache_control.CacheControl.with_line.Goals as goal
 
 pub loop-entry-init : goal.loop-entry-init

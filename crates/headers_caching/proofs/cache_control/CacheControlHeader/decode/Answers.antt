@@ -1,10 +1,8 @@
-use Rattle.std.{proofs.Common.{◌≡◌, ℕ, true, false, List, ◌++◌, refl, sym, ◌∙◌, ap, subst}, specs.List.list_any}
-use Rattle.std.proofs.lemmas.Result.{err_from_is_err_and}
-use Rattle.http_header.specs.FieldValue.{FieldValue}
-use Rattle.headers_items.specs.Entries.{entries, line_entries}
-use Rattle.headers_syntax.proofs.OfLinesLemmas.{OfLinesSoFar-more, OfLines-stopped}
-use Rattle.headers_caching.{specs.CacheControl.{Direct, directives, is_bad}, proofs.LineLemmas.line_more}
-use Rattle.headers_caching.proofs.LineLemmas.{directs_nothing}
+use Rattle.headers_caching.{proofs.LineLemmas.{directs_nothing, line_more}, specs.CacheControl.{Direct, directives}}
+use Rattle.{headers_caching.specs.CacheControl.is_bad, headers_items.specs.Entries.{entries, line_entries}}
+use Rattle.headers_syntax.proofs.OfLinesLemmas.{OfLines-stopped, OfLinesSoFar-more}
+use Rattle.{http_header.specs.FieldValue.FieldValue, std.proofs.Common.{List, ap, false, refl, subst, sym, true, ℕ}}
+use Rattle.std.{proofs.{Common.{◌++◌, ◌∙◌, ◌≡◌}, lemmas.Result.err_from_is_err_and}, specs.List.list_any}
 use Rattle.headers_caching.proofs.cache_control.CacheControlHeader.decode.Goals as goal
 
 pub loop-line-preserved : goal.loop-line-preserved

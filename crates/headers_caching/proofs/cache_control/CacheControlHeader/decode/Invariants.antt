@@ -1,6 +1,5 @@
+use Rattle.{headers_caching.specs.CacheControl.Direct, headers_items.specs.Entries.entries}
 use Rattle.headers_syntax.proofs.OfLinesLemmas.{OfLinesSoFar}
-use Rattle.headers_items.specs.Entries.{entries}
-use Rattle.headers_caching.specs.CacheControl.{Direct}
 use Rattle.headers_caching.proofs.cache_control.CacheControlHeader.decode.Given as goal
 
 abbrev pub invariant-loop-line : goal.invariant-loop-line

@@ -1,5 +1,4 @@
-use Rattle.headers_items.proofs.AnswerLemmas.{survives_commas}
-use Rattle.std.proofs.Common.{◌↔◌, Contains, IsTrue, codes}
+use Rattle.{headers_items.proofs.AnswerLemmas.survives_commas, std.proofs.Common.{Contains, IsTrue, codes, ◌↔◌}}
 use Rattle.headers_caching.proofs.vary.Vary.is_any.Goals as goal
 
 pub returns-clause-cuts : goal.returns-clause-cuts

@@ -1,6 +1,5 @@
-use Rattle.std.proofs.Common.{◌≡◌, true, None, Some, Option, ◌∙◌, ap}
-use Rattle.http_header.specs.FieldValue.{FieldValue}
-use Rattle.headers_syntax.{specs.EntityTag.is_tag, proofs.EntityTagLemmas.is_tag-true}
+use Rattle.headers_syntax.{proofs.EntityTagLemmas.is_tag-true, specs.EntityTag.is_tag}
+use Rattle.{http_header.specs.FieldValue.FieldValue, std.proofs.Common.{None, Option, Some, ap, true, ◌∙◌, ◌≡◌}}
 use Rattle.headers_conditional.proofs.etag.ETag.from_str.Goals as goal
 
 pub returns-in-None-clause-text : goal.returns-in-None-clause-text

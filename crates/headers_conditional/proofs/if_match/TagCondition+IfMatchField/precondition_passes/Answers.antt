@@ -1,7 +1,6 @@
-use Rattle.std.{proofs.Common.{◌↔◌, IsTrue}, specs.Prelude.Any}
-use Rattle.headers_syntax.specs.EntityTag.{AreTags, StronglyEqual}
-use Rattle.headers_items.{specs.Places.comma, proofs.AnswerLemmas.goes_by_items}
-use Rattle.headers_conditional.{specs.IfMatch.MatchPasses, proofs.CutLemmas.range_survives}
+use Rattle.{headers_conditional.proofs.CutLemmas.range_survives, headers_items.proofs.AnswerLemmas.goes_by_items}
+use Rattle.{headers_conditional.specs.IfMatch.MatchPasses, headers_syntax.specs.EntityTag.{AreTags, StronglyEqual}}
+use Rattle.{headers_items.specs.Places.comma, std.{proofs.Common.{IsTrue, ◌↔◌}, specs.Prelude.Any}}
 use Rattle.headers_conditional.proofs.if_match.TagCondition+IfMatchField.precondition_passes.Goals as goal
 
 pub returns-clause-by_items : goal.returns-clause-by_items

@@ -1,7 +1,6 @@
-use Rattle.std.{proofs.Common.{◌↔◌, IsTrue}, specs.Prelude.Any}
-use Rattle.headers_syntax.specs.EntityTag.{AreTags, WeaklyEqual}
-use Rattle.headers_items.{specs.Places.comma, proofs.AnswerLemmas.goes_by_items}
-use Rattle.headers_conditional.{specs.IfNoneMatch.NoneMatchPasses, proofs.CutLemmas.range_survives}
+use Rattle.headers_conditional.{proofs.CutLemmas.range_survives, specs.IfNoneMatch.NoneMatchPasses}
+use Rattle.headers_items.{proofs.AnswerLemmas.goes_by_items, specs.Places.comma}
+use Rattle.{headers_syntax.specs.EntityTag.{AreTags, WeaklyEqual}, std.{proofs.Common.{IsTrue, ◌↔◌}, specs.Prelude.Any}}
 use Rattle.headers_conditional.proofs.if_none_match.TagCondition+IfNoneMatchField.precondition_passes.Goals as goal
 
 pub returns-clause-by_items : goal.returns-clause-by_items

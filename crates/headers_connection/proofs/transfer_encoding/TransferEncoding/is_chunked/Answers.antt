@@ -1,10 +1,8 @@
-use Rattle.std.proofs.Common.{◌≡◌, ◌↔◌, Bool, Bor, IsTrue, List, ℕ, MatchOption, None, Option, Some, false, refl, sym}
-use Rattle.std.{proofs.Common.true, specs.Prelude.codes, specs.List.after_last}
-use Rattle.std.proofs.lemmas.List.Elements.{filter_passes}
-use Rattle.headers_syntax.specs.Text.{is_text, trim}
-use Rattle.headers_items.{proofs.AnswerLemmas.survives_commas, proofs.PlacesLemmas.items-no_text, specs.Places.comma}
-use Rattle.headers_items.specs.Places.{items, is_counting_place, counting_from}
-use Rattle.headers_connection.{specs.Chunked.{IsChunked, is_comma}, proofs.ChunkedLemmas.last_item}
+use Rattle.headers_connection.{proofs.ChunkedLemmas.last_item, specs.Chunked.{IsChunked, is_comma}}
+use Rattle.{headers_items.proofs.{AnswerLemmas.survives_commas, PlacesLemmas.items-no_text}, std.specs.Prelude.codes}
+use Rattle.{headers_items.specs.Places.{comma, counting_from, is_counting_place, items}, std.specs.List.after_last}
+use Rattle.{headers_syntax.specs.Text.{is_text, trim}, std.proofs.{Common.◌≡◌, lemmas.List.Elements.filter_passes}}
+use Rattle.std.proofs.Common.{Bool, Bor, IsTrue, List, MatchOption, None, Option, Some, false, refl, sym, true, ℕ, ◌↔◌}
 use Rattle.headers_connection.proofs.transfer_encoding.TransferEncoding.is_chunked.Goals as goal
 
 -- the answer for a value that is text or not

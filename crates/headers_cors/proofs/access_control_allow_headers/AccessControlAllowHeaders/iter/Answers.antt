@@ -1,5 +1,4 @@
-use Rattle.headers_items.proofs.AnswerLemmas.{survives_commas}
-use Rattle.headers_names.specs.ListItem.{names}
+use Rattle.{headers_items.proofs.AnswerLemmas.survives_commas, headers_names.specs.ListItem.names}
 use Rattle.std.proofs.Common.{◌≡◌}
 use Rattle.headers_cors.proofs.access_control_allow_headers.AccessControlAllowHeaders.iter.Goals as goal
 

@@ -1,6 +1,5 @@
+use Rattle.{headers_cors.proofs.AllowOriginLemmas.line_refused, headers_hosts.proofs.OriginLemmas.is_no_word}
 use Rattle.std.specs.Prelude.{codes}
-use Rattle.headers_hosts.proofs.OriginLemmas.{is_no_word}
-use Rattle.headers_cors.proofs.AllowOriginLemmas.{line_refused}
 use Rattle.headers_cors.proofs.access_control_allow_origin.AccessControlAllowOrigin.from_val.Goals as goal
 
 pub returns-in-Err : goal.returns-in-Err

@@ -1,6 +1,5 @@
-use Rattle.std.proofs.Common.{sym, subst}
-use Rattle.http_header.specs.FieldValue.{IsFieldValue}
-use Rattle.http_header.proofs.TokenLemmas.{IsVisibleAscii-from_token, IsFieldValue-from_visible}
+use Rattle.http_header.proofs.TokenLemmas.{IsFieldValue-from_visible, IsVisibleAscii-from_token}
+use Rattle.{http_header.specs.FieldValue.IsFieldValue, std.proofs.Common.{subst, sym}}
 use Rattle.headers_cors.proofs.access_control_request_method.AccessControlRequestMethod.to_value.Goals as goal
 
 pub unreachable-requires : goal.unreachable-requires

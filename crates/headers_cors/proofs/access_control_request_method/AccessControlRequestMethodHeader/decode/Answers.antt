@@ -1,8 +1,5 @@
-use Rattle.std.proofs.Common.{ap}
-use Rattle.http_header.specs.FieldValue.{FieldValue}
-use Rattle.headers_syntax.specs.Lines.{first_line}
-use Rattle.headers_cors.specs.AccessControlRequestMethod.{IsMethodLine}
-use Rattle.headers_hosts.proofs.OneLineLemmas.{decodes_line}
+use Rattle.{headers_cors.specs.AccessControlRequestMethod.IsMethodLine, headers_hosts.proofs.OneLineLemmas.decodes_line}
+use Rattle.{headers_syntax.specs.Lines.first_line, http_header.specs.FieldValue.FieldValue, std.proofs.Common.ap}
 use Rattle.headers_cors.proofs.access_control_request_method.AccessControlRequestMethodHeader.decode.Goals as goal
 
 pub returns-clause-value : goal.returns-clause-value

@@ -1,6 +1,5 @@
-use Rattle.std.proofs.Common.{sym, subst}
-use Rattle.http_header.specs.FieldValue.{IsFieldValue}
-use Rattle.headers_hosts.proofs.OriginLemmas.{IsFieldValue-authority}
+use Rattle.{headers_hosts.proofs.OriginLemmas.IsFieldValue-authority, http_header.specs.FieldValue.IsFieldValue}
+use Rattle.std.proofs.Common.{subst, sym}
 use Rattle.headers_hosts.proofs.host.Host.to_value.Goals as goal
 
 pub unreachable-requires : goal.unreachable-requires

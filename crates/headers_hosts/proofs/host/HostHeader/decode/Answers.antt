@@ -1,7 +1,5 @@
-use Rattle.std.proofs.Common.{ap}
-use Rattle.http_header.specs.FieldValue.{FieldValue}
-use Rattle.headers_syntax.specs.Lines.{first_line}
-use Rattle.headers_hosts.{specs.Host.IsHostLine, proofs.OneLineLemmas.decodes_line}
+use Rattle.headers_hosts.{proofs.OneLineLemmas.decodes_line, specs.Host.IsHostLine}
+use Rattle.{headers_syntax.specs.Lines.first_line, http_header.specs.FieldValue.FieldValue, std.proofs.Common.ap}
 use Rattle.headers_hosts.proofs.host.HostHeader.decode.Goals as goal
 
 pub returns-clause-value : goal.returns-clause-value

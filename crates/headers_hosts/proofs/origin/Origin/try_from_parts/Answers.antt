@@ -1,5 +1,4 @@
-use Rattle.std.proofs.Common.{List, ℕ, sym, ◌∙◌, subst}
-use Rattle.headers_hosts.specs.OriginParts.{IsOriginText}
+use Rattle.{headers_hosts.specs.OriginParts.IsOriginText, std.proofs.Common.{List, subst, sym, ℕ, ◌∙◌}}
 use Rattle.headers_hosts.proofs.origin.Origin.try_from_parts.Goals as goal
 
 pub returns-in-Err-Invalid : goal.returns-in-Err-Invalid

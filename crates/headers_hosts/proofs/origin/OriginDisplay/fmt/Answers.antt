@@ -1,6 +1,5 @@
-use Rattle.std.{proofs.Common.{◌≡◌, ℕ, List, ◌++◌, sym, ap, ◌∙◌, refl, append_assoc}, proofs.lemmas.Grind.put_three}
-use Rattle.std.specs.Prelude.{codes}
-use Rattle.headers_hosts.{specs.Origin.tuple_text, proofs.FormatterLemmas.put_three_styled}
+use Rattle.{headers_hosts.{proofs.FormatterLemmas.put_three_styled, specs.Origin.tuple_text}, std.specs.Prelude.codes}
+use Rattle.std.proofs.{Common.{List, ap, append_assoc, refl, sym, ℕ, ◌++◌, ◌∙◌, ◌≡◌}, lemmas.Grind.put_three}
 use Rattle.headers_hosts.proofs.origin.OriginDisplay.fmt.Goals as goal
 
 text_same : (s t a b : List ℕ) → s ≡ t → a ≡ b → s ++ (codes "://" ++ a) ≡ tuple_text t b

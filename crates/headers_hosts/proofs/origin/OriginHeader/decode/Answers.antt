@@ -1,7 +1,5 @@
-use Rattle.std.proofs.Common.{ap}
-use Rattle.http_header.specs.FieldValue.{FieldValue}
-use Rattle.headers_syntax.specs.Lines.{only_line}
-use Rattle.headers_hosts.{specs.Origin.IsOriginLine, proofs.OneLineLemmas.decodes_line}
+use Rattle.headers_hosts.{proofs.OneLineLemmas.decodes_line, specs.Origin.IsOriginLine}
+use Rattle.{headers_syntax.specs.Lines.only_line, http_header.specs.FieldValue.FieldValue, std.proofs.Common.ap}
 use Rattle.headers_hosts.proofs.origin.OriginHeader.decode.Goals as goal
 
 pub returns-clause-value : goal.returns-clause-value

@@ -1,5 +1,4 @@
-use Rattle.std.proofs.Common.{◌≡◌}
-use Rattle.headers_items.specs.Pairs.{pairs_left, first_value}
+use Rattle.{headers_items.specs.Pairs.{first_value, pairs_left}, std.proofs.Common.◌≡◌}
 use Rattle.headers_lists.proofs.cookie.Cookie.get.Given as goal
 
 abbrev pub invariant-loop-key : goal.invariant-loop-key

@@ -1,6 +1,5 @@
-use Rattle.headers_items.{proofs.AnswerLemmas.survives_semicolons, specs.ItemsState.ItemsState, specs.Pairs.pairs}
-use Rattle.headers_items.specs.Pairs.{pairs_left}
-use Rattle.std.proofs.Common.{◌≡◌}
+use Rattle.headers_items.{proofs.AnswerLemmas.survives_semicolons, specs.{ItemsState.ItemsState, Pairs.pairs}}
+use Rattle.{headers_items.specs.Pairs.pairs_left, std.proofs.Common.◌≡◌}
 use Rattle.headers_lists.proofs.cookie.Cookie.iter.Goals as goal
 
 pub returns-clause-cuts : goal.returns-clause-cuts

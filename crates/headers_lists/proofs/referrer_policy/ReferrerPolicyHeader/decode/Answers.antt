@@ -1,7 +1,6 @@
-use Rattle.std.{proofs.Common.{◌≡◌, None, ◌∙◌, ap}, specs.List.{last_or, filter_map}}
-use Rattle.http_header.specs.FieldValue.{FieldValue}
-use Rattle.headers_syntax.{proofs.OfLinesLemmas.OfLinesSoFar-more, specs.Parts.parts, proofs.PartsLemmas.last_more}
-use Rattle.headers_lists.specs.ReferrerPolicy.{policies, policy_named}
+use Rattle.{headers_lists.specs.ReferrerPolicy.{policies, policy_named}, http_header.specs.FieldValue.FieldValue}
+use Rattle.headers_syntax.{proofs.{OfLinesLemmas.OfLinesSoFar-more, PartsLemmas.last_more}, specs.Parts.parts}
+use Rattle.std.{proofs.Common.{None, ap, ◌∙◌, ◌≡◌}, specs.List.{filter_map, last_or}}
 use Rattle.headers_lists.proofs.referrer_policy.ReferrerPolicyHeader.decode.Goals as goal
 
 pub loop-line-preserved : goal.loop-line-preserved

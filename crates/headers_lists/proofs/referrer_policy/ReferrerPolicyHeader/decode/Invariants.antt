@@ -1,6 +1,5 @@
-use Rattle.std.{proofs.Common.{◌≡◌, None}, specs.List.last_or}
-use Rattle.headers_syntax.proofs.OfLinesLemmas.{OfLinesSoFar}
-use Rattle.headers_lists.specs.ReferrerPolicy.{policies}
+use Rattle.{headers_lists.specs.ReferrerPolicy.policies, headers_syntax.proofs.OfLinesLemmas.OfLinesSoFar}
+use Rattle.std.{proofs.Common.{None, ◌≡◌}, specs.List.last_or}
 use Rattle.headers_lists.proofs.referrer_policy.ReferrerPolicyHeader.decode.Given as goal
 
 abbrev pub invariant-loop-line : goal.invariant-loop-line

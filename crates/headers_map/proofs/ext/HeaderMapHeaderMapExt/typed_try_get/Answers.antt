@@ -1,8 +1,7 @@
-use Rattle.std.proofs.Common.{◌≡◌, List, Err, ◌∙◌, ap, subst}
-use Rattle.http_header.{specs.FieldValue.FieldValue, specs.HeaderMap.get_all}
-use Rattle.headers_syntax.{specs.Lines.lines_of, specs.DecodesTo.DecodesTo}
-use Rattle.headers_map.{specs.Typed.HasLine, proofs.TypedLemmas.{OfLines-values, HasLine-from_next}}
-use Rattle.headers_map.proofs.TypedLemmas.{IsTypedRead-from_refused}
+use Rattle.headers_map.proofs.TypedLemmas.{HasLine-from_next, IsTypedRead-from_refused, OfLines-values}
+use Rattle.{headers_map.specs.Typed.HasLine, headers_syntax.specs.{DecodesTo.DecodesTo, Lines.lines_of}}
+use Rattle.{http_header.specs.{FieldValue.FieldValue, HeaderMap.get_all}, std.proofs.Common.{Err, List, ap, subst, ◌∙◌}}
+use Rattle.std.proofs.Common.{◌≡◌}
 use Rattle.headers_map.proofs.ext.HeaderMapHeaderMapExt.typed_try_get.Goals as goal
 
 pub returns-in-Ok-clause-value : goal.returns-in-Ok-clause-value

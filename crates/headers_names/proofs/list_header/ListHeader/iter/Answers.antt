@@ -1,5 +1,4 @@
-use Rattle.headers_items.proofs.AnswerLemmas.{survives_commas}
-use Rattle.headers_names.specs.ListItem.{values}
+use Rattle.{headers_items.proofs.AnswerLemmas.survives_commas, headers_names.specs.ListItem.values}
 use Rattle.std.proofs.Common.{◌≡◌}
 use Rattle.headers_names.proofs.list_header.ListHeader.iter.Goals as goal
 

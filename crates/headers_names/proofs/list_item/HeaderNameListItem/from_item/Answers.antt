@@ -1,6 +1,5 @@
-use Rattle.std.proofs.Common.{sym, refl}
-use Rattle.http_header.specs.Token.{lowercase}
-use Rattle.headers_names.proofs.ReadingLemmas.{name_of-kept, name_of-refused}
+use Rattle.{headers_names.proofs.ReadingLemmas.{name_of-kept, name_of-refused}, http_header.specs.Token.lowercase}
+use Rattle.std.proofs.Common.{refl, sym}
 use Rattle.headers_names.proofs.list_item.HeaderNameListItem.from_item.Goals as goal
 
 pub returns-in-Ok : goal.returns-in-Ok

@@ -1,6 +1,5 @@
+use Rattle.{headers_names.proofs.ReadingLemmas.name-reads, http_header.specs.FieldValue.FieldValue}
 use Rattle.std.proofs.Common.{ap}
-use Rattle.http_header.specs.FieldValue.{FieldValue}
-use Rattle.headers_names.proofs.ReadingLemmas.{name-reads}
 use Rattle.headers_names.proofs.list_item.HeaderNameListItem.into_line.Goals as goal
 
 pub returns-clause-reads : goal.returns-clause-reads

@@ -1,6 +1,5 @@
-use Rattle.std.proofs.Common.{sym, refl}
-use Rattle.http_header.specs.Token.{IsToken}
-use Rattle.headers_names.proofs.ReadingLemmas.{method_of-kept, method_of-refused, IsToken-kept, above}
+use Rattle.headers_names.proofs.ReadingLemmas.{IsToken-kept, above, method_of-kept, method_of-refused}
+use Rattle.{http_header.specs.Token.IsToken, std.proofs.Common.{refl, sym}}
 use Rattle.headers_names.proofs.list_item.MethodListItem.from_item.Goals as goal
 
 pub returns-in-Ok : goal.returns-in-Ok

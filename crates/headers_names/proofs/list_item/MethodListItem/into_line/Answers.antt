@@ -1,7 +1,6 @@
-use Rattle.std.proofs.Common.{ap, sym, subst, ◌∙◌}
-use Rattle.http_header.specs.FieldValue.{FieldValue, IsFieldValue}
-use Rattle.http_header.proofs.TokenLemmas.{IsVisibleAscii-from_token, IsFieldValue-from_visible}
-use Rattle.headers_names.proofs.ReadingLemmas.{method-reads}
+use Rattle.{headers_names.proofs.ReadingLemmas.method-reads, http_header.proofs.TokenLemmas.IsFieldValue-from_visible}
+use Rattle.http_header.{proofs.TokenLemmas.IsVisibleAscii-from_token, specs.FieldValue.{FieldValue, IsFieldValue}}
+use Rattle.std.proofs.Common.{ap, subst, sym, ◌∙◌}
 use Rattle.headers_names.proofs.list_item.MethodListItem.into_line.Goals as goal
 
 pub returns-in-Ok-clause-reads : goal.returns-in-Ok-clause-reads

@@ -1,5 +1,4 @@
-use Rattle.std.proofs.Common.{sym}
-use Rattle.headers_names.proofs.ReadingLemmas.{names-next}
+use Rattle.{headers_names.proofs.ReadingLemmas.names-next, std.proofs.Common.sym}
 use Rattle.headers_names.proofs.names.Names.next.Goals as goal
 
 pub returns-in-Some-Ok : goal.returns-in-Some-Ok

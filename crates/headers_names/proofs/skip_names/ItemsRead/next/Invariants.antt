@@ -1,6 +1,5 @@
-use Rattle.std.proofs.Common.{◌≡◌, false, length}
-use Rattle.headers_items.specs.ItemsState.{items_left}
-use Rattle.headers_names.specs.ListItem.{values}
+use Rattle.{headers_items.specs.ItemsState.items_left, headers_names.specs.ListItem.values, std.proofs.Common.false}
+use Rattle.std.proofs.Common.{length, ◌≡◌}
 use Rattle.headers_names.proofs.skip_names.ItemsRead.next.Given as goal
 
 abbrev pub invariant-loop-item : goal.invariant-loop-item

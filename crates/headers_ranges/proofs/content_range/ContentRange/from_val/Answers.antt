@@ -1,5 +1,4 @@
-use Rattle.std.proofs.Common.{◌∙◌, Some, None}
-use Rattle.headers_ranges.proofs.ContentLemmas.{no_content, content_is}
+use Rattle.{headers_ranges.proofs.ContentLemmas.{content_is, no_content}, std.proofs.Common.{None, Some, ◌∙◌}}
 use Rattle.headers_ranges.proofs.content_range.ContentRange.from_val.Goals as goal
 
 pub returns-in_err-text : goal.returns-in_err-text

@@ -1,5 +1,4 @@
-use Rattle.std.proofs.Common.{◌∙◌}
-use Rattle.headers_ranges.proofs.ContentLemmas.{content_value}
+use Rattle.{headers_ranges.proofs.ContentLemmas.content_value, std.proofs.Common.◌∙◌}
 use Rattle.headers_ranges.proofs.content_range.ContentRange.to_value.Goals as goal
 
 pub from_known_valid-requires : goal.from_known_valid-requires

@@ -1,5 +1,4 @@
-use Rattle.std.proofs.Common.{arith}
-use Rattle.headers_ranges.proofs.RangeLemmas.{length-ranges-le}
+use Rattle.{headers_ranges.proofs.RangeLemmas.length-ranges-le, std.proofs.Common.arith}
 use Rattle.headers_ranges.proofs.satisfiable.Satisfiable.new.Goals as goal
 
 pub returns-clause-count : goal.returns-clause-count

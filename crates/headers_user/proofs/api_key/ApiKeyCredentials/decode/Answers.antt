@@ -1,5 +1,4 @@
-use Rattle.std.proofs.Common.{sym}
-use Rattle.headers_user.proofs.ApiKeyLemmas.{IsUtf8-key}
+use Rattle.{headers_user.proofs.ApiKeyLemmas.IsUtf8-key, std.proofs.Common.sym}
 use Rattle.headers_user.proofs.api_key.ApiKeyCredentials.decode.Goals as goal
 
 pub returns-in_default : goal.returns-in_default

@@ -1,6 +1,5 @@
-use Rattle.std.proofs.Common.{sym, ◌∙◌, ap, subst, codes, ℕ, List, ◌++◌}
-use Rattle.http_header.specs.FieldValue.{IsFieldValue}
-use Rattle.headers_user.proofs.ApiKeyLemmas.{IsFieldValue-line}
+use Rattle.{headers_user.proofs.ApiKeyLemmas.IsFieldValue-line, http_header.specs.FieldValue.IsFieldValue}
+use Rattle.std.proofs.Common.{List, ap, codes, subst, sym, ℕ, ◌++◌, ◌∙◌}
 use Rattle.headers_user.proofs.api_key.ApiKeyCredentials.encode.Goals as goal
 
 pub unreachable-requires : goal.unreachable-requires

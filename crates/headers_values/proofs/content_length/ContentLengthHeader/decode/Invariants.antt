@@ -1,5 +1,4 @@
-use Rattle.headers_syntax.proofs.OfLinesLemmas.{OfLinesSoFar}
-use Rattle.headers_values.proofs.ContentLengthLemmas.{NumberSoFar}
+use Rattle.{headers_syntax.proofs.OfLinesLemmas.OfLinesSoFar, headers_values.proofs.ContentLengthLemmas.NumberSoFar}
 use Rattle.headers_values.proofs.content_length.ContentLengthHeader.decode.Given as goal
 
 abbrev pub invariant-loop-item : goal.invariant-loop-item

@@ -1,8 +1,7 @@
-use Rattle.std.{proofs.Common.{◌≡◌, List, [], ◌∷◌, ◌++◌, ◌∙◌, ap}, proofs.lemmas.Result.err_from_is_err_and}
-use Rattle.http_header.specs.FieldValue.{FieldValue}
-use Rattle.headers_syntax.{specs.Lines.{Line, lines_of}, proofs.OfLinesLemmas.{OfLines-stop, OfLines-stopped}}
-use Rattle.headers_syntax.proofs.OfLinesLemmas.{OfLinesSoFar-more}
-use Rattle.headers_items.proofs.CutAtLemmas.{lines_of_push}
+use Rattle.{headers_items.proofs.CutAtLemmas.lines_of_push, headers_syntax.proofs.OfLinesLemmas.OfLines-stop}
+use Rattle.headers_syntax.{proofs.OfLinesLemmas.{OfLines-stopped, OfLinesSoFar-more}, specs.Lines.{Line, lines_of}}
+use Rattle.{http_header.specs.FieldValue.FieldValue, std.proofs.Common.{List, [], ap, ◌++◌, ◌∙◌, ◌∷◌, ◌≡◌}}
+use Rattle.std.proofs.lemmas.Result.{err_from_is_err_and}
 use Rattle.headers_values.proofs.set_cookie.SetCookieHeader.decode.Goals as goal
 
 pub returns-in_err-lines-clause-value : goal.returns-in_err-lines-clause-value

@@ -1,5 +1,4 @@
-use Rattle.std.proofs.Common.{◌≡◌}
-use Rattle.headers_syntax.{specs.Lines.lines_of, proofs.OfLinesLemmas.OfLinesSoFar}
+use Rattle.{headers_syntax.{proofs.OfLinesLemmas.OfLinesSoFar, specs.Lines.lines_of}, std.proofs.Common.◌≡◌}
 use Rattle.headers_values.proofs.set_cookie.SetCookieHeader.decode.Given as goal
 
 abbrev pub invariant-loop-line : goal.invariant-loop-line

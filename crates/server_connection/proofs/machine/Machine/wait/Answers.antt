@@ -1,9 +1,8 @@
-use Rattle.std.{proofs.Common.{ℕ, List, ◌++◌, length, refl, sym, ap, ◌∙◌, subst, arith}, proofs.lemmas.Bool.cond-true}
-use Rattle.http_server.{specs.Exchange.ExpectsContinue, proofs.StreamLemmas.{all_called, same_rest}}
-use Rattle.http_server.proofs.MachineLemmas.{holds, truncated}
-use Rattle.server_connection.proofs.machine.Machine.wait.Goals.{else-not-self-2-via-then-not-self-2+else-is_empty}
+use Rattle.http_server.proofs.{MachineLemmas.{holds, truncated}, StreamLemmas.{all_called, same_rest}}
+use Rattle.{http_server.specs.Exchange.ExpectsContinue, server_connection.proofs.TurnLemmas.refused_on}
 use Rattle.server_connection.proofs.machine.Machine.wait.Goals.{else-not-self-2-via-else-not-self-2}
-use Rattle.server_connection.proofs.TurnLemmas.{refused_on}
+use Rattle.server_connection.proofs.machine.Machine.wait.Goals.{else-not-self-2-via-then-not-self-2+else-is_empty}
+use Rattle.std.proofs.{Common.{List, ap, arith, length, refl, subst, sym, ℕ, ◌++◌, ◌∙◌}, lemmas.Bool.cond-true}
 use Rattle.server_connection.proofs.machine.Machine.wait.Goals as goal
 
 pub returns-clause-puts : goal.returns-clause-puts
