@@ -1,36 +1,23 @@
 -- What a client receives through gateways and caches is what the resource says.
-use Rattle.std.proofs.Common.{◌≡◌, ◌≢◌, ◌⊎◌, ◌↔◌, ℕ, ◌+◌, ◌<◌, ◌≤◌, Bool, true, false, List, [], ◌∷◌, ◌++◌, Some, None}
-use Rattle.std.proofs.Common.{◌∙◌, ap, append_assoc, subst, sym, inl, inr, arith, option_map, Option, refl}
-use Rattle.std.proofs.lemmas.{Bool.{cases_Bool, cond_both}, Option.same_Some, Slice.Eq.bytes_eq-Decides}
-use Rattle.std.specs.{List.list_any, Prelude.{All, IsSomeAnd, bytes_eq, codes}}
-use Rattle.{http_header.specs.Token.lowercase, headers.specs.Date.fixdate}
-use Rattle.headers.specs.{LineMap.{LineMap, lines_at, set_all}, Lines.Line, Typed.HasLine}
+use Rattle.std.proofs.Common.{◌≡◌, ◌≢◌, ◌⊎◌, ◌↔◌, ℕ, ◌+◌, ◌≤◌, Bool, true, false, List, [], ◌∷◌, ◌++◌, Some, None, refl}
+use Rattle.std.proofs.Common.{◌∙◌, ap, append_assoc, subst, sym, inl, inr, arith, option_map, Option}
+use Rattle.std.{proofs.lemmas.{Bool.{cases_Bool, cond_both}, Slice.Eq.bytes_eq-Decides}, specs.Prelude.{All, bytes_eq}}
+use Rattle.{std.specs.{Prelude.codes, List.list_any}, http_header.specs.Token.lowercase, headers.specs.Date.fixdate}
+use Rattle.headers.specs.{LineMap.{fields_of, set_all}, Lines.Line, Typed.HasLine}
 use Rattle.{decide_preconditions.specs.Preconditions.IsGetOrHead, cache_policy.specs.Fields.{age_of, age_value}}
-use Rattle.cache_policy.specs.{Freshening.{freshened, is_kept_name}, Requests.AllowsMethod, Varying.Agree}
-use Rattle.cache_policy.specs.Updating.{HasStrongTag, HasValidator, IsUpdated, tag_in}
-use Rattle.cache_rules.specs.{Freshening.{IsFreshened, aged_anew}, Selection.IsCandidate, Stored.fields_of_stored}
-use Rattle.cache_rules.specs.{Storing.or_date, declared.freshening.Exchange.Exchange}
-use Rattle.cache_rules.specs.declared.stored.StoredResponse.{StoredResponse}
-use Rattle.cache_store.specs.{Changes.IsStoredAs, Contents.Contents, History.IsJustified}
-use Rattle.chain.specs.Caches.{Act, Answers, Caching, Clock, HasAfter, HasComeFrom, IsConfirmed, IsFreshenedFor}
-use Rattle.chain.specs.Caches.{IsFromStore, IsPlain, Origin, Reply, asked, calls_of, key_of, second_of, unless_head}
-use Rattle.chain.specs.{Caches.with_conditions, Chains.{Counts, Hop, Hop.{Forwards, Stores}, IsBlank}}
-use Rattle.chain.specs.Chains.{IsForwardedBack, IsOwn, IsSentBack, IsTold, behind, caches, meant, own}
-use Rattle.chain.specs.{Ways.{IsSentOn, named_host, sent_directly}, Servers.{IsCarried, IsSaid, SaysCloseAtMost}}
-use Rattle.chain.specs.Servers.{SaysWhatHasChanged, Server, Site, renewed}
-use Rattle.chain.proofs.{AskingLemmas.{ReadsNoMore, without_conditions}, ConnectionLemmas.{crosses_if, names_none}}
-use Rattle.chain.proofs.ServerLemmas.{same_sent, says_close_at_most}
-use Rattle.chain.proofs.StoreLemmas.{Held, IsRenewing, IsStoring, StoreLaws, age_is, agreed_on, allowed_method, came}
-use Rattle.chain.proofs.StoreLemmas.{counts, good_at, held, is_candidate, kept_bare, once, one, own_method, plain_alike}
-use Rattle.chain.proofs.StoreLemmas.{plain_first, quiet, runs, says_here, with_method}
-use Rattle.chain.proofs.SuitLemmas.{MembersSelect, VaryIsSound, agree_back, get_alone, suited}
-use Rattle.chain.proofs.WayLemmas.{HasFewOptions, IsRead, alike, alike_by, choose_alike, choose_by, choose_direct}
-use Rattle.chain.proofs.WayLemmas.{crosses, differs, direct, few_options, same_lines}
-use Rattle.{rfc_fields.specs.Members.field_members, chain.proofs.StoreLemmas.told_apart}
+use Rattle.{cache_policy.specs.Requests.AllowsMethod, chain.specs.Caches.{Caching, HasComeFrom, IsFromStore, IsPlain}}
+use Rattle.chain.specs.{Caches.{Origin, Reply, second_of, unless_head}, Chains.{Counts, Hop, Hop.{Forwards, Stores}}}
+use Rattle.chain.specs.Chains.{IsBlank, IsForwardedBack, IsOwn, IsSentBack, IsTold, behind, caches, meant}
+use Rattle.chain.specs.{Ways.{named_host, sent_directly}, Servers.{IsCarried, IsSaid, SaysCloseAtMost, Site, sent_of}}
+use Rattle.chain.proofs.{ConnectionLemmas.crosses_if, ServerLemmas.{same_sent, says_close_at_most}}
+use Rattle.chain.proofs.StoreLemmas.{StoreLaws, age_is, alike_first, allowed_method, asked_first, come, counts, from}
+use Rattle.chain.proofs.StoreLemmas.{good_at, once_more, with_method, lacks, plain_first, quiet, stored_as, suits}
+use Rattle.chain.proofs.{SuitLemmas.{MembersSelect, VaryIsSound, suited}, WayLemmas.{IsRead, ReadsNoMore, alike}}
+use Rattle.chain.proofs.WayLemmas.{alike_by, apart, choose_alike, choose_by, choose_direct, crosses, differs, direct}
+use Rattle.{chain.proofs.WayLemmas.{no_options, same_lines}, rfc_fields.specs.Members.field_members}
 use Rattle.gateway_messages.specs.{Forwarding.{IsHopByHop, own_names, replaced}, Spellings.has_mark}
 use Rattle.gateway_messages.specs.declared.{gateway.Gateway.Gateway, protocol.Protocol.TheVariants.Http11}
 use Rattle.gateway_messages.specs.{Responses.date_unless, HopByHop.{connection_options, is_hop_by_hop, is_known}}
-use Rattle.gateway_messages.specs.HopByHop.{is_named}
 use Rattle.{gateway_messages.proofs.SpellingLemmas.well_spelt, decide_resource.specs.Answers.IsAnswer}
 use Rattle.decide_resource.specs.{Requests.{Request, get_of, head_of}, Vary.{AreAlike, ChooseAlike}}
 use Rattle.decide_resource.specs.declared.{answer.Answer.Answer, resource.Resource.Resource}
@@ -57,33 +44,17 @@ nothing method =
 
 -- ---- one request in place of another
 
--- the conditions that a cache adds
-abbrev conditions_in : Request → List Line
-conditions_in request = request.fields (codes "if-none-match") ++ request.fields (codes "if-modified-since")
-
-no_conditions : {target : List ℕ} {request : Request} → IsPlain target request → conditions_in request ≡ []
-no_conditions {request = request} plain =
-    let tags : request.fields (codes "if-none-match") ≡ [] = plain.without 5 [] (omega arith) in
-    let dates : request.fields (codes "if-modified-since") ≡ [] = plain.without 6 [] (omega arith) in
-    rw (tags, dates) refl
-
--- an answer to the one is an answer to the other, and both name one host, direct caches alike and have such conditions
+-- an answer to the one is an answer to the other, and both name one host and direct caches alike
 record Stands (r s : Request) : Type 0 where
   answers : (present : ℕ) (resource : Resource) (answer : Answer)
       → IsAnswer present resource r answer ↔ IsAnswer present resource s answer
   method : r.method ≡ s.method
   host : named_host r ≡ named_host s
   directs : r.fields (codes "cache-control") ≡ s.fields (codes "cache-control")
-  conditions : conditions_in r ≡ conditions_in s
 
 stays : (r : Request) → Stands r r
-stays r = record {
-  answers = λ present resource answer. ((λ h. h), (λ h. h));
-  method = refl;
-  host = refl;
-  directs = refl;
-  conditions = refl;
-}
+stays r =
+    record { answers = λ present resource answer. ((λ h. h), (λ h. h)); method = refl; host = refl; directs = refl }
 
 named_alike : (r s : Request) → AreAlike r s → named_host r ≡ named_host s
 named_alike r s h = ap (λ (authority : Option Line). replaced authority (r.fields (codes "host"))) h.authority
@@ -91,40 +62,6 @@ named_alike r s h = ap (λ (authority : Option Line). replaced authority (r.fiel
 
 turned : {r s : Request} → Stands r s → Stands s r
 turned h = grind arith
-
--- the same of the answers with a status
-record StandsFor (status : ℕ) (r s : Request) : Type 0 where
-  answers : (present : ℕ) (resource : Resource) (answer : Answer) → answer.status ≡ Some status
-      → IsAnswer present resource r answer → IsAnswer present resource s answer
-  method : r.method ≡ s.method
-  host : named_host r ≡ named_host s
-  directs : r.fields (codes "cache-control") ≡ s.fields (codes "cache-control")
-  some : conditions_in s ≢ [] → conditions_in r ≢ []
-
-for_status : {r s : Request} → Stands r s → (status : ℕ) → StandsFor status r s
-for_status h status = record {
-  answers = λ present resource answer is k. (h.answers present resource answer).0 k;
-  method = h.method;
-  host = h.host;
-  directs = h.directs;
-  some = λ has none. has (sym h.conditions ∙ none);
-}
-
--- what is said to the one request by the one reply is said to the other by another reply
-resaid : {server : Server} {time : ℕ} {r s : Request} {before reply : Reply}
-    → ((answer : Answer) → answer.status ≡ Some before.status
-    → IsAnswer (second_of time) (server.resource time) r answer
-    → IsAnswer (second_of time) (server.resource time) s answer) → r.method ≡ s.method → reply.status ≡ before.status
-    → reply.content ≡ before.content
-    → ((name : List ℕ) → IsCarried name → reply.fields name ≡ before.fields name) → IsSaid server time r before
-    → IsSaid server time s reply
-resaid answers method status content fields said = record {
-  answer = said.answer;
-  is = answers said.answer said.status said.is;
-  status = said.status ∙ ap (λ (n : ℕ). Some n) (sym status);
-  content = rw (sym method, status) (content ∙ said.content);
-  fields = λ name c. rw status (fields name c ∙ said.fields name c);
-}
 
 -- a reply as it came, but for the fields of one connection and those that gateways write
 record Carries (before reply : Reply) : Type 0 where
@@ -149,96 +86,61 @@ shorter : (seconds short other time now : ℕ) → short ≤ other → Counts se
     → Counts seconds other time now
 shorter seconds short other time now less counts = grind arith
 
--- a reply to a request with conditions isn't from a store
-record Told (site : Site) (silent : List Hop → ℕ → Bool) (hops : List Hop) (start now : ℕ) (target : List ℕ)
-    (request : Request) (reply : Reply) : Type 0 where
-  told : IsTold site silent hops start now target request reply
-  once : conditions_in request ≢ [] → told.time ≡ told.left
-
 -- what is told behind some hops of the one reply is told before them of another that carries it
-told_for : {site : Site} {silent : List Hop → ℕ → Bool} {hops : List Hop} {sent came : ℕ} {target : List ℕ}
+told_by : {site : Site} {silent : List Hop → ℕ → Bool} {hops : List Hop} {sent came : ℕ} {target : List ℕ}
     {r s : Request} {before reply : Reply} → (front : List Hop) (start now : ℕ) → start ≤ sent → came ≤ now
-    → StandsFor before.status r s → Told site silent hops sent came target r before → Carries before reply
-    → Told site silent (front ++ hops) start now target s reply
-told_for {site = site} {hops = hops} {sent = sent} {came = came} {target = target} {r = r} {s = s} {before = before}
-    front start now early late h known k =
-    let t = known.told in
+    → Stands r s → IsTold site silent hops sent came target r before → Carries before reply
+    → IsTold site silent (front ++ hops) start now target s reply
+told_by {site = site} {hops = hops} {sent = sent} {came = came} {target = target} {r = r} {s = s} {before = before}
+    front start now early late h t k =
     let said : IsSaid (site (named_host s) target) t.time r before =
     subst (λ (lines : List Line). IsSaid (site lines target) t.time r before) h.host t.said in
     record {
-      told = record {
-        time = t.time;
-        said = resaid (λ answer status is. h.answers _ _ answer status is) h.method k.status k.content k.fields said;
-        left = t.left;
-        since = t.since;
-        after = omega (arith, early, t.after);
-        past = omega (arith, late, t.past);
-        aged = subst (λ (n : ℕ). Counts n (caches (front ++ hops)) t.time t.left) k.age
-            (shorter _ _ _ _ _ (more front hops) t.aged);
-        good = elim t.good [
-          | inl e ↦ inl e
-          | inr g ↦
-              inr (
-              record {
-                caching = g.caching;
-                nearer = front ++ g.nearer;
-                further = g.further;
-                on_the_way = ap (λ (hops : List Hop). front ++ hops) g.on_the_way
-                    ∙ sym (append_assoc front g.nearer (Stores g.caching ∷ g.further));
-                asked = g.asked;
-                method = g.method ∙ h.method;
-                directs = g.directs ∙ h.directs;
-                arrived = g.arrived;
-                after = omega (arith, early, g.after);
-                stored = g.stored;
-                status = k.status ∙ g.status;
-                same = λ name c. k.fields name c ∙ g.same name c;
-                date = λ has. k.date (subst HasLine (sym (g.date has)) has) ∙ g.date has;
-                found = g.found;
-              }
-              )
-        ];
-        connection = k.connection;
+      time = t.time;
+      said = record {
+        answer = said.answer;
+        is = (h.answers (second_of t.time) ((site (named_host s) target).resource t.time) said.answer).0 said.is;
+        status = said.status ∙ ap (λ (n : ℕ). Some n) (sym k.status);
+        content = rw (sym h.method, k.status) (k.content ∙ said.content);
+        fields = λ name c. rw k.status (k.fields name c ∙ said.fields name c);
       };
-      once = λ has. known.once (h.some has);
+      left = t.left;
+      since = t.since;
+      after = omega (arith, early, t.after);
+      past = omega (arith, late, t.past);
+      aged = subst (λ (n : ℕ). Counts n (caches (front ++ hops)) t.time t.left) k.age
+          (shorter _ _ _ _ _ (more front hops) t.aged);
+      good = elim t.good [
+        | inl e ↦ inl e
+        | inr g ↦
+            inr (
+            record {
+              caching = g.caching;
+              nearer = front ++ g.nearer;
+              further = g.further;
+              on_the_way = ap (λ (hops : List Hop). front ++ hops) g.on_the_way
+                  ∙ sym (append_assoc front g.nearer (Stores g.caching ∷ g.further));
+              asked = g.asked;
+              method = g.method ∙ h.method;
+              directs = g.directs ∙ h.directs;
+              arrived = g.arrived;
+              after = omega (arith, early, g.after);
+              stored = g.stored;
+              status = k.status ∙ g.status;
+              same = λ name c. k.fields name c ∙ g.same name c;
+              date = λ has. k.date (subst HasLine (sym (g.date has)) has) ∙ g.date has;
+              found = g.found;
+            }
+            )
+      ];
+      connection = k.connection;
     }
 
--- what is said as a reply leaves the server is told
-told_then : {site : Site} {silent : List Hop → ℕ → Bool} {hops others : List Hop} {sent came start now : ℕ}
-    {target : List ℕ} {r s : Request} {before reply : Reply}
-    → (t : IsTold site silent hops sent came target r before) → t.time ≡ t.left → start ≤ sent → came ≤ now
-    → IsSaid (site (named_host s) target) t.time s reply → SaysCloseAtMost reply.fields
-    → Told site silent others start now target s reply
-told_then t at early late said connection = record {
-  told = record {
-    time = t.time;
-    said = said;
-    left = t.left;
-    since = t.since;
-    after = omega (arith, early, t.after);
-    past = omega (arith, late, t.past);
-    aged = inr (omega (arith, at));
-    good = inl at;
-    connection = connection;
-  };
-  once = λ some. at;
-}
-
-told_by : {site : Site} {silent : List Hop → ℕ → Bool} {hops : List Hop} {sent came : ℕ} {target : List ℕ}
-    {r s : Request} {before reply : Reply} → (front : List Hop) (start now : ℕ) → start ≤ sent → came ≤ now
-    → Stands r s → Told site silent hops sent came target r before → Carries before reply
-    → Told site silent (front ++ hops) start now target s reply
-told_by front start now early late h t k = told_for front start now early late (for_status h _) t k
-
 told_as : {site : Site} {silent : List Hop → ℕ → Bool} {hops : List Hop} {start now : ℕ} {target : List ℕ}
-    {r s : Request} {reply : Reply} → Stands r s → Told site silent hops start now target r reply
-    → Told site silent hops start now target s reply
+    {r s : Request} {reply : Reply} → Stands r s → IsTold site silent hops start now target r reply
+    → IsTold site silent hops start now target s reply
 told_as {start = start} {now = now} {reply = reply} h t =
-    told_by [] start now (omega arith) (omega arith) h t (itself reply t.told.connection)
-
-plain_few : {target : List ℕ} (request : Request) → IsPlain target request → HasFewOptions request
-plain_few request h name is =
-    ap (λ (lines : List Line). is_named (field_members true lines) name) (h.without 0 [] (omega arith))
+    told_by [] start now (omega arith) (omega arith) h t (itself reply t.connection)
 
 module _ (reads : ReadsNoMore) where
   same_if : (r s : Request) → AreAlike r s → ChooseAlike r.fields s.fields
@@ -248,32 +150,21 @@ module _ (reads : ReadsNoMore) where
     method = alike.method;
     host = named_alike r s alike;
     directs = line;
-    conditions = rw (alike.asks.if_none_match, alike.asks.if_modified_since) refl;
   }
 
-  -- a request whose connection options count for nothing is as it is meant
+  -- a request without connection options is as it is meant
   as_meant : (request : Request) → request.protocol ≡ Http11 → request.authority ≡ None
-      → HasFewOptions request → (hops : List Hop) → Stands request (meant hops request)
-  as_meant request modern origin few [] = stays _
-  as_meant request modern origin few (Stores caching ∷ hops) = as_meant request modern origin few hops
-  as_meant request modern origin few (Forwards gateway ∷ hops) = same_if request (sent_directly gateway request)
-      (direct gateway request modern origin few) (choose_direct gateway request modern origin few)
-      (crosses gateway request modern origin few (codes "cache-control") (refl, refl, refl, refl, refl, refl, refl))
+      → connection_options request.fields ≡ [] → (hops : List Hop) → Stands request (meant hops request)
+  as_meant request modern origin none [] = stays _
+  as_meant request modern origin none (Stores caching ∷ hops) = as_meant request modern origin none hops
+  as_meant request modern origin none (Forwards gateway ∷ hops) = same_if request (sent_directly gateway request)
+      (direct gateway request modern origin none) (choose_direct gateway request modern origin none)
+      (crosses gateway request modern origin none (codes "cache-control") (refl, refl, refl, refl, refl, refl))
 
   plain_meant : {target : List ℕ} (request : Request) → IsPlain target request → (hops : List Hop)
       → Stands request (meant hops request)
-  plain_meant request h = as_meant request h.read.protocol h.read.authority (plain_few request h)
-
-  asking_meant : {target : List ℕ} (request : Request) → IsPlain target request → (tags dates : List Line)
-      → (hops : List Hop)
-      → Stands (with_conditions tags dates request) (meant hops (with_conditions tags dates request))
-  asking_meant request h tags dates = as_meant (with_conditions tags dates request) h.read.protocol h.read.authority
-      (plain_few request h)
-
-  stands_next : {gateway : Gateway} {request next : Request} → IsSentOn gateway request next
-      → Stands (sent_directly gateway request) next
-  stands_next h = same_if _ _ (alike h) (choose_alike h)
-      (same_lines h (codes "cache-control") (refl, refl, refl, refl, refl, refl, refl))
+  plain_meant request h = as_meant request h.read.protocol h.read.authority
+      (ap (λ (lines : List Line). field_members true lines) (h.without 0 [] (omega arith)))
 
 -- ---- a gateway
 
@@ -282,9 +173,6 @@ same_date : (date : ℕ) (lines : List Line) → HasLine lines
     → replaced (option_map fixdate (date_unless date lines)) lines ≡ lines
 same_date date [] has = absurd (omega arith)
 same_date date (line ∷ lines) has = refl
-
-not_connection : (name : List ℕ) → is_known true name ≡ false → name ≢ codes "connection"
-not_connection name other e = absurd (cc (subst (λ (n : List ℕ). is_known true n ≡ false) e other))
 
 module _ {gateway : Gateway} {behind reply : Reply} (f : IsSentBack gateway behind reply) where
   status_behind : reply.status ≡ behind.status
@@ -295,34 +183,38 @@ module _ {gateway : Gateway} {behind reply : Reply} (f : IsSentBack gateway behi
   passes at_most name end_to_end not_close unmarked not_own =
       let crossing = crosses_if gateway.consumes_credentials f.response.fields
       (at_most.0, f.received.fields (codes "connection") ∙ at_most.1) name end_to_end not_close in
-      f.fields name (not_connection name end_to_end)
+      f.fields name
       ∙ f.forwarded.fields.end_to_end name crossing (well_spelt gateway name unmarked) not_own
       ∙ f.received.fields name
 
   -- fields of one connection end here, those that connection options name too
   pub ends : (name : List ℕ) → IsHopByHop gateway behind.fields name → name ≢ codes "transfer-encoding"
-      → name ≢ codes "connection" → reply.fields name ≡ []
-  ends name hop other not_own =
+      → reply.fields name ≡ []
+  ends name hop other =
       let same : connection_options behind.fields ≡ connection_options f.response.fields
       = ap (λ (lines : List Line). field_members true lines) (sym (f.received.fields (codes "connection"))) in
-      f.fields name not_own ∙ f.forwarded.fields.hop_by_hop name (rw same at hop) other
+      f.fields name ∙ f.forwarded.fields.hop_by_hop name (rw same at hop) other
 
   carries : SaysCloseAtMost behind.fields → Carries behind reply
   carries at_most = record {
     status = status_behind;
     content = f.content;
     fields = λ name c. passes at_most name c.end_to_end c.not_close c.unmarked c.not_own;
-    date = λ has. f.fields (codes "date") (λ e. absurd (cc e)) ∙ f.forwarded.fields.date
+    date = λ has. f.fields (codes "date") ∙ f.forwarded.fields.date
         ∙ same_date f.date _ (subst HasLine (sym (f.received.fields (codes "date"))) has)
         ∙ f.received.fields (codes "date");
     age = ap age_of
         (sym (passes at_most (codes "age") refl (λ e. absurd (cc e)) refl (differs (codes "age") own_names refl)));
-    connection = f.closes;
+    connection = (
+      false,
+      f.fields (codes "connection")
+          ∙ f.forwarded.fields.hop_by_hop (codes "connection") refl (apart (codes "connection") refl),
+    );
   }
 
   -- a carried field that isn't behind the gateway isn't before it
   lacks_behind : (name : List ℕ) → IsCarried name → behind.fields name ≡ [] → reply.fields name ≡ []
-  lacks_behind name c none = f.fields name (not_connection name c.end_to_end) ∙ elim (
+  lacks_behind name c none = f.fields name ∙ elim (
       cases_Bool (is_hop_by_hop gateway.consumes_credentials (connection_options f.response.fields) name)
       ) [
         | inl hop ↦ f.forwarded.fields.hop_by_hop name hop (coding_not_carried name c)
@@ -337,12 +229,13 @@ module _ {gateway : Gateway} {behind reply : Reply} (f : IsSentBack gateway behi
 through : ReadsNoMore → {gateway : Gateway} {origin : Origin} {start now : ℕ} {target : List ℕ} {request : Request}
     {reply : Reply} {site : Site} {silent : List Hop → ℕ → Bool} {hops : List Hop}
     → (f : IsForwardedBack gateway origin start now target request reply)
-    → Told site silent hops f.passed.sent f.passed.came target f.passed.next f.behind
-    → Told site silent (Forwards gateway ∷ hops) start now target (sent_directly gateway request) reply
-through reads {gateway = gateway} {start = start} {now = now} f t =
+    → IsTold site silent hops f.passed.sent f.passed.came target f.passed.next f.behind
+    → IsTold site silent (Forwards gateway ∷ hops) start now target (sent_directly gateway request) reply
+through reads {gateway = gateway} {start = start} {now = now} {request = request} f t =
     let p = f.passed in
-    told_by (Forwards gateway ∷ []) start now p.after p.past (turned (stands_next reads p.there)) t
-    (carries f.back t.told.connection)
+    let same = same_if reads (sent_directly gateway request) p.next (alike p.there) (choose_alike p.there)
+    (same_lines p.there (codes "cache-control") (refl, refl, refl, refl, refl, refl)) in
+    told_by (Forwards gateway ∷ []) start now p.after p.past (turned same) t (carries f.back t.connection)
 
 -- ---- a cache
 
@@ -355,11 +248,10 @@ HeadIsAsGet = (present : ℕ) (resource : Resource) (request : Request) (answer 
 
 module _ (request : Request) where
   as_head : request.method ≡ codes "HEAD" → AreAlike (head_of request) request
-  as_head is_head = alike_by (head_of request) request (λ name is. refl) refl (sym is_head) refl refl refl refl refl
+  as_head is_head = alike_by (head_of request) request (λ name is. refl) refl (sym is_head) refl refl refl refl
 
   as_it_is : (method : List ℕ) → method ≡ request.method → AreAlike (with_method method request) request
-  as_it_is method same =
-      alike_by (with_method method request) request (λ name is. refl) refl same refl refl refl refl refl
+  as_it_is method same = alike_by (with_method method request) request (λ name is. refl) refl same refl refl refl refl
 
   choose_it : ChooseAlike request.fields request.fields
   choose_it = choose_by request request (λ name is. refl)
@@ -373,7 +265,7 @@ module _ (request : Request) where
 
     as_get : (method : List ℕ) → method ≡ codes "GET" → AreAlike (with_method method request) (get_of request)
     as_get method is_get =
-        alike_by (with_method method request) (get_of request) get_fields refl is_get refl refl refl refl refl
+        alike_by (with_method method request) (get_of request) get_fields refl is_get refl refl refl refl
 
     choose_get : ChooseAlike request.fields (get_of request).fields
     choose_get = choose_by request (get_of request) get_fields
@@ -397,452 +289,151 @@ allowed_answer reads heads target request plain method (inr h) present resource 
     (reads present resource (with_method method request) request answer
     (as_it_is request method (h.0 ∙ sym h.1)) (choose_it request)).0 k
 
--- ---- what is stored
-
--- a stored response, as a reply
-abbrev reply_of : StoredResponse → Reply
-reply_of stored = record { status = stored.status; fields = fields_of_stored stored; content = stored.content }
-
-some_date : (second : ℕ) (lines : List Line) → HasLine lines → or_date second lines ≡ lines
-some_date second [] has = absurd (omega arith)
-some_date second (line ∷ lines) has = refl
-
-module _ {clock : Clock} {origin : Origin} {now : ℕ} {target : List ℕ} {request : Request}
-    {came stored : StoredResponse} (c : HasComeFrom clock origin now target request came)
-    (kept : IsStoredAs came stored) (none : fields_of_stored stored (codes "connection") ≡ []) where
-  module _ (at_most : SaysCloseAtMost c.reply.fields) where
-    ends_here : (name : List ℕ) → is_known true name ≡ false → lowercase name ≢ codes "close"
-        → is_hop_by_hop true (connection_options (fields_of_stored came)) name ≡ true → ⊥
-    ends_here name end_to_end not_close hop = cc (
-      hop,
-      crosses_if true (fields_of_stored came) (at_most.0, c.noted.fields (codes "connection") ∙ at_most.1) name
-          end_to_end not_close,
-    )
-
-    -- what isn't for one connection is stored as it came
-    stored_as : (name : List ℕ) → is_known true name ≡ false → lowercase name ≢ codes "close" → name ≢ codes "date"
-        → fields_of_stored stored name ≡ c.reply.fields name
-    stored_as name end_to_end not_close not_date =
-        kept.fields.end_to_end name (ends_here name end_to_end not_close) not_date ∙ c.noted.fields name
-
-    as_it_came : Carries c.reply (reply_of stored)
-    as_it_came = record {
-      status = kept.status ∙ c.noted.status;
-      content = kept.content ∙ c.noted.content;
-      fields = λ name d. stored_as name d.end_to_end d.not_close (date_not_carried name d);
-      date = λ has. kept.fields.date (ends_here (codes "date") refl (λ e. absurd (cc e)))
-          ∙ ap (or_date came.received) (c.noted.fields (codes "date")) ∙ some_date _ _ has;
-      age = ap age_of (sym (stored_as (codes "age") refl (λ e. absurd (cc e)) (λ e. absurd (cc e))));
-      connection = (false, none);
-    }
-
-  -- a carried field that didn't come isn't stored
-  blank_stored : IsBlank c.reply → IsBlank (reply_of stored)
-  blank_stored b = record {
-    content = kept.content ∙ c.noted.content ∙ b.content;
-    fields = λ name d. elim (cases_Bool (is_hop_by_hop true (connection_options (fields_of_stored came)) name)) [
-      | inl hop ↦ kept.fields.hop_by_hop name hop (date_not_carried name d)
-      | inr crosses ↦
-          kept.fields.end_to_end name (λ hop. absurd (cc (hop, crosses))) (date_not_carried name d)
-          ∙ c.noted.fields name ∙ b.fields name d
-    ];
-  }
-
--- ---- a 304
-
--- a response without carried fields has no validator
-no_line : {lines : List Line} → lines ≡ [] → HasLine lines → ⊥
-no_line none has = let no : 0 < 0 = subst HasLine none has in omega (arith, no)
-
-blank_tag : {reply : Reply} → IsBlank reply → reply.fields (codes "etag") ≡ []
-blank_tag b = b.fields (codes "etag") (carried (codes "etag") refl refl refl (λ e. absurd (cc e)) (λ e. absurd (cc e)))
-
-blank_date : {reply : Reply} → IsBlank reply → reply.fields (codes "last-modified") ≡ []
-blank_date b = b.fields (codes "last-modified")
-    (carried (codes "last-modified") refl refl refl (λ e. absurd (cc e)) (λ e. absurd (cc e)))
-
-unvalidated : {reply : Reply} → IsBlank reply → HasValidator reply.fields → ⊥
-unvalidated b (inl tag) = no_line (blank_tag b) tag
-unvalidated b (inr date) = no_line (blank_date b) date
-
--- so no 304 with a validator is about it
-no_some : {P : Line → Type 0} (tag : Option Line) → IsSomeAnd tag P → ((line : Line) → P line → ⊥) → ⊥
-no_some None is none = is
-no_some (Some line) is none = none line is
-
-not_about : {stored : Reply} (update : LineMap) → IsBlank stored → IsUpdated stored.fields update
-    → HasValidator update → ⊥
-not_about update b about (inl tag) = no_some (tag_in update) (about.tag tag) (λ line is. rw (blank_tag b) at is)
-not_about update b about (inr date) = elim (about.date date) [
-  | inl strong ↦ by (update (codes "etag")) refl strong
-  | inr same ↦ no_line (sym same ∙ blank_date b) date
-]
-  where
-    by : (lines : List Line) → update (codes "etag") ≡ lines → HasStrongTag update → ⊥
-    by [] none strong = rw none at strong
-    by (line ∷ lines) some strong = no_some (tag_in update)
-        (about.tag (subst HasLine (sym some) (omega arith))) (λ line is. rw (blank_tag b) at is)
-
--- what a 304 makes of a stored response
-freshened_as : (second : ℕ) (full confirmed : Reply) → SaysCloseAtMost confirmed.fields → (name : List ℕ)
-    → IsCarried name
-    → freshened (aged_anew second full.fields) confirmed.fields name ≡ (renewed full confirmed).fields name
-freshened_as second full confirmed at_most name c =
-    let named : is_named (connection_options confirmed.fields) name ≡ false
-    = ap (λ (lines : List Line). is_named (field_members true lines) name) at_most.1
-    ∙ names_none at_most.0 name c.not_close in
-    let apart = told_apart name c.not_age (date_not_carried name c) in
-    elim (cases_Bool (is_kept_name name)) [
-      | inl t ↦ rw (t, apart.0, apart.1) refl
-      | inr f ↦ rw (f, named, apart.0, apart.1) refl
-    ]
-
--- ---- a cache before others
-
-got : (method content : List ℕ) → method ≡ codes "GET" → unless_head method content ≡ content
-got method content get = rw get refl
-
 module _ (reads : ReadsNoMore) (heads : HeadIsAsGet) (sound : VaryIsSound) (members : MembersSelect)
     (law : StoreLaws) where
-  -- what is said to a plain request is said to another that a cache takes for it
-  said_to : (server : Server) (time : ℕ) (target : List ℕ) (r s : Request) (before : Reply) → IsPlain target r
-      → IsPlain target s → r.fields (codes "host") ≡ s.fields (codes "host") → AllowsMethod r.method s.method
-      → All (Agree r.fields s.fields) (field_members true (before.fields (codes "vary")))
-      → IsSaid server time r before
-      → IsSaid server time s (record {
-        status = before.status;
-        fields = before.fields;
-        content = unless_head s.method before.content;
-      })
-  said_to server time target r s before h k host allowed agree said =
-      let asks = with_method r.method s in
-      let own = server.own time before.status in
-      let answers = some_answer (second_of time) (server.resource time) asks (server.fits time) in
-      let same = suited sound members (second_of time) (server.resource time) r asks said.answer answers.0 own said.is
-      answers.1 (plain_alike target r s h k host) (
-      record {
-        method = own_method _ _ allowed;
-        fields = rw (said.fields (codes "vary") vary_carried) at agree;
-      }
-      ) in
-      record {
-        answer = answers.0;
-        is = allowed_answer reads heads target s k r.method allowed (second_of time) (server.resource time) answers.0
-            answers.1;
-        status = sym same.status ∙ said.status;
-        content = ap (λ (c : List ℕ). unless_head s.method c) said.content ∙ once r.method s.method allowed _
-            ∙ ap (λ (sent : _). unless_head s.method (server.content time before.status sent))
-            (same_sent _ _ same.sends);
-        fields = λ name c. said.fields name c ∙ ap (λ fields. set_all own fields name) same.fields;
-      }
+  module _ {caching : Caching} {origin : Origin} {silent : ℕ → Bool} {start now : ℕ} {target : List ℕ}
+      {request : Request} {reply : Reply} (f : IsFromStore caching origin silent start now target request reply) where
+    abbrev first : Request
+    first = (come law f).request
 
-  module _ (site : Site) (silent : List Hop → ℕ → Bool)
-      (changes : (host : List Line) (target : List ℕ) → SaysWhatHasChanged (site host target)) where
-    -- what is known of a reply that those behind a list of hops give
-    abbrev Tells : List Hop → Origin
-    Tells hops start now target request reply =
-        Told site silent hops start now target (meant hops request) reply
-        ⊎ IsOwn site silent hops start now target request reply
+    abbrev came : HasComeFrom caching.clock origin f.time target first (come law f).came
+    came = from law f
 
-    module _ (hops : List Hop) (below : (start now : ℕ) (target : List ℕ) (request : Request) (reply : Reply)
-        → behind site silent hops start now target request reply → Tells hops start now target request reply)
-        (caching : Caching) where
-      abbrev origin : Origin
-      origin = behind site silent hops
+    status_is : reply.status ≡ came.reply.status
+    status_is = f.status ∙ (come law f).kept.status ∙ came.noted.status
 
-      abbrev owned : Origin
-      owned = own site silent hops
-
-      -- what is known of the answer to a plain request, which may get conditions
-      answered : (start now : ℕ) (target : List ℕ) (request : Request) (reply : Reply) → IsPlain target request
-          → Answers origin start now target request reply
-          → Told site silent hops start now target request reply
-          ⊎ (Answers owned start now target request reply × IsBlank reply)
-      answered start now target request reply plain (inl h) = elim (below start now target request reply h) [
-        | inl t ↦ inl (told_as (turned (plain_meant reads request plain hops)) t)
-        | inr k ↦ inr (inl k.reason, k.blank)
-      ]
-      answered start now target request reply plain (inr (tags, dates, also, h, other)) =
-          elim (below start now target (with_conditions tags dates request) reply h) [
-            | inl t ↦
-                let asked = told_as (turned (asking_meant reads request plain tags dates hops)) t in
-                inl (told_for [] start now (omega arith) (omega arith) (
-                record {
-                  answers = λ present resource answer status is. without_conditions reads present resource target
-                      request plain tags dates answer (λ e. other (same_Some _ _ (sym status ∙ e))) is;
-                  method = refl;
-                  host = refl;
-                  directs = refl;
-                  some = λ has none. has (no_conditions plain);
-                }
-                ) asked (itself reply asked.told.connection))
-            | inr k ↦ inr (inr (tags, dates, also, k.reason, other), k.blank)
-          ]
-
-      module _ (now : ℕ) where
-        -- the stored response was the answer of a gateway or a cache itself
-        record WasOwn (target : List ℕ) (request : Request) (stored : StoredResponse) : Type 0 where
-          sent : ℕ
-          came : ℕ
-          past : came ≤ now
-          reply : Reply
-          given : Answers owned sent came target request reply
-          status : stored.status ≡ reply.status
-          blank : IsBlank (reply_of stored)
-
-        abbrev Says : List ℕ → Request → ℕ → ℕ → StoredResponse → Type 0
-        Says target request sent received stored =
-            Told site silent hops sent received target request (reply_of stored) ⊎ WasOwn target request stored
-
-        stores : IsStoring caching origin now Says
-        stores target request came stored plain c kept bare =
-            elim (answered c.sent c.received target request c.reply plain c.answered) [
-              | inl t ↦
-                  inl (told_by [] c.sent c.received (omega arith) (omega arith) (stays request) t
-                  (as_it_came c kept (bare (codes "connection") refl) t.told.connection))
-              | inr k ↦
-                  inr (
-                  record {
-                    sent = c.sent;
-                    came = c.received;
-                    past = c.trip.past;
-                    reply = c.reply;
-                    given = k.0;
-                    status = kept.status ∙ c.noted.status;
-                    blank = blank_stored c kept (bare (codes "connection") refl) k.1;
-                  }
-                  )
-            ]
-
-        -- a 304 that comes, a response that it is about, and what it makes of that
-        module _ {target : List ℕ} {request : Request} {confirmed : Reply} {exchange : Exchange}
-            (c : IsConfirmed caching.clock origin now target request confirmed exchange) where
-          told_304 : Told site silent hops c.sent c.received target (with_conditions c.tags c.dates request) confirmed
-          told_304 = elim (below c.sent c.received target (with_conditions c.tags c.dates request) confirmed
-              c.answered) [
-                | inl t ↦ told_as (turned (asking_meant reads request c.plain c.tags c.dates hops)) t
-                | inr k ↦ absurd (unvalidated k.blank c.validator)
-              ]
-
-          at_once : told_304.told.time ≡ told_304.told.left
-          at_once = told_304.once c.some
-
-          module _ {old new : StoredResponse} (h : Held caching origin now Says (key_of target request) old)
-              (fits : IsCandidate (asked request) old) (about : IsUpdated (fields_of_stored old) confirmed.fields)
-              (fresh : IsFreshened old confirmed.fields exchange new) where
-            host_same : named_host h.request ≡ named_host request
-            host_same = named_alike h.request (with_method h.request.method request)
-                (plain_alike target h.request request (plain_first h c.plain fits) c.plain (one h c.plain fits).host)
-
-            said_304 : IsSaid (site (named_host request) target) told_304.told.time request (reply_of new)
-            said_304 =
-                let server = site (named_host request) target in
-                let t = told_304.told in
-                elim (says_here h c.plain fits) [
-                  | inr kept ↦ absurd (not_about confirmed.fields kept.blank about c.validator)
-                  | inl o ↦
-                      let said = subst
-                      (λ (lines : List Line). IsSaid (site lines target) o.told.time h.request (reply_of old))
-                      host_same o.told.said in
-                      let full = said_to server o.told.time target h.request request (reply_of old)
-                      (plain_first h c.plain fits) c.plain (one h c.plain fits).host (allowed_method h c.plain fits)
-                      (agreed_on h c.plain fits) said in
-                      resaid (λ answer status is. is) refl fresh.status
-                      (fresh.content ∙ sym (got request.method old.content c.method))
-                      (λ name d. fresh.fields name
-                      ∙ freshened_as exchange.received (reply_of old) confirmed t.connection name d)
-                      (changes (named_host request) target t.time o.told.time request c.tags c.dates _ confirmed
-                      c.method full t.said c.status about)
-                ]
-
-        renews : IsRenewing caching origin now Says
-        renews target request confirmed exchange c old new h fits about fresh suits bare =
-            let t = (told_304 c).told in
-            let first = one h c.plain fits in
-            let plain = plain_first h c.plain fits in
-            let is_get = get_alone h.request.method request.method (allowed_method h c.plain fits) c.method in
-            let lines = λ (name : List ℕ). sym (ap (λ m. lines_at m name) fresh.request ∙ h.lines name) in
-            let said = said_to (site (named_host request) target) t.time target request h.request (reply_of new)
-            c.plain plain (sym first.host) (inl (c.method, inl is_get))
-            (agree_back (lines_at new.request) request.fields h.request.fields _ lines suits.fields)
-            (said_304 c h fits about fresh) in
-            subst (λ (u : List ℕ). Says u h.request c.sent c.received new) (sym first.target) (inl
-            (told_then t (at_once c) (omega arith) (omega arith)
-            (subst (λ (host : List Line). IsSaid (site host target) t.time h.request (reply_of new))
-            (sym (host_same c h fits about fresh)) (resaid (λ answer status is. is) refl refl
-            (sym (got h.request.method new.content is_get)) (λ name d. refl) said))
-            (false, bare (codes "connection") refl)))
-
-        hold : (key : List ℕ) (stored : StoredResponse) (acts : List Act) (contents : Contents)
-            → HasAfter caching origin now acts contents → IsJustified caching.policy key (calls_of acts) stored
-            → Held caching origin now Says key stored
-        hold = held caching origin now Says stores renews
-
-      -- what is served of the store
-      module _ {start now : ℕ} {target : List ℕ} {request : Request} {reply : Reply}
-          (f : IsFromStore caching origin (silent hops) start now target request reply) where
-        abbrev h : Held caching origin f.time (Says f.time) (key_of target request) f.stored
-        h = came law f (Says f.time) (stores f.time) (renews f.time)
-
-        from_store : Tells (Stores caching ∷ hops) start now target request reply
-        from_store =
-            let plain = f.found.sought.plain in
-            let fits = is_candidate law f in
-            let server = site (named_host request) target in
-            elim (says_here h plain fits) [
-              | inr own ↦
-                  inr (
-                  record {
-                    reason = inr (inl (
-                      f,
-                      record {
-                        sent = own.sent;
-                        came = own.came;
-                        past = omega (arith, own.past, f.past);
-                        first = h.request;
-                        plain = plain_first h plain fits;
-                        given_reply = own.reply;
-                        given = own.given;
-                        status = f.served.status ∙ own.status;
-                      },
-                    ));
-                    blank = record {
-                      content = f.served.content
-                          ∙ ap (λ (c : List ℕ). unless_head request.method c) own.blank.content
-                          ∙ nothing request.method;
-                      fields = λ name c. f.served.fields name c.not_age ∙ own.blank.fields name c;
-                    };
-                  }
-                  )
-              | inl o ↦
-                  let t = o.told in
-                  let host = named_alike h.request (with_method h.request.method request)
-                  (plain_alike target h.request request (plain_first h plain fits) plain (one h plain fits).host) in
-                  let said = said_to server t.time target h.request request (reply_of f.stored)
-                  (plain_first h plain fits) plain (one h plain fits).host (allowed_method h plain fits)
-                  (agreed_on h plain fits)
-                  (subst (λ (lines : List Line). IsSaid (site lines target) t.time h.request (reply_of f.stored)) host
-                  t.said) in
-                  let aged = counts law f h t.time t.left (caches hops) t.since t.after t.past t.aged in
-                  inl (told_as (plain_meant reads request plain hops) (
-                  record {
-                    told = record {
-                      time = t.time;
-                      said = resaid (λ answer status is. is) refl f.served.status f.served.content
-                          (λ name c. f.served.fields name c.not_age) said;
-                      left = f.time;
-                      since = omega (arith, t.since, t.past, h.trip.past);
-                      after = f.after;
-                      past = f.past;
-                      aged = subst (λ (n : ℕ). Counts n (caches hops + 1) t.time f.time) (sym (age_is law f)) aged;
-                      good = inr (
-                          record {
-                            caching = caching;
-                            nearer = [];
-                            further = hops;
-                            on_the_way = refl;
-                            asked = request;
-                            method = refl;
-                            directs = refl;
-                            arrived = start;
-                            after = omega arith;
-                            stored = f.stored;
-                            status = f.served.status;
-                            same = λ name c. f.served.fields name c.not_age;
-                            date = λ has. f.served.fields (codes "date") (λ e. absurd (cc e));
-                            found = good_at law f h t.time t.left (caches hops + 1) t.since t.past aged;
-                          }
-                          );
-                      connection = (false, quiet law f h);
-                    };
-                    once = λ some. absurd (some (no_conditions plain));
-                  }
-                  ))
-            ]
-
-      -- what is served as a 304 freshens it
-      from_304 : {start now : ℕ} {target : List ℕ} {request : Request} {reply : Reply}
-          → IsFreshenedFor caching origin start now target request reply
-          → Tells (Stores caching ∷ hops) start now target request reply
-      from_304 {start = start} {now = now} {target = target} {request = request} v =
-          let c = v.confirms in
-          let key = key_of target request in
-          let h = hold v.time key v.old v.acts v.contents v.has
-          (law.1 caching.policy caching.limits (calls_of v.acts) v.contents
-          (runs caching origin v.time v.acts v.contents v.has) key v.old v.was) in
-          let t = (told_304 v.time c).told in
-          let none = v.fresh.fields (codes "connection")
-          ∙ kept_bare v.exchange.received (fields_of_stored v.old) v.confirmed.fields (codes "connection") refl
-          (h.bare (codes "connection") refl) in
-          inl (told_as (plain_meant reads request c.plain hops) (told_then t (at_once v.time c) v.in_time
-          (omega (arith, c.trip.past, v.past)) (resaid (λ answer status is. is) refl v.served.status
-          (v.served.content ∙ got request.method v.stored.content c.method)
-          (λ name d. v.served.fields name d.not_age) (said_304 v.time c h v.suits v.about v.fresh))
-          (false, v.served.fields (codes "connection") (λ e. absurd (cc e)) ∙ none)))
-
-      -- a reply to another request comes through as it is
-      comes_through : (start now : ℕ) (target : List ℕ) (request : Request) (reply : Reply)
-          → Answers origin start now target request reply
-          → Tells (Stores caching ∷ hops) start now target request reply
-      comes_through start now target request reply (inl b) = elim (below start now target request reply b) [
-        | inl t ↦
-            inl (told_by (Stores caching ∷ []) start now (omega arith) (omega arith) (stays _) t
-            (itself reply t.told.connection))
-        | inr k ↦ inr (record { reason = inl (inl k.reason); blank = k.blank })
-      ]
-      comes_through start now target request reply (inr b) =
-          elim (answered start now target request reply b.2 (inr b)) [
-            | inl t ↦
-                inl (told_as (plain_meant reads request b.2 hops) (told_by (Stores caching ∷ []) start now
-                (omega arith) (omega arith) (stays _) t (itself reply t.told.connection)))
-            | inr k ↦ inr (record { reason = inl k.0; blank = k.1 })
-          ]
-
-    -- ---- a chain
-
-    knows : (hops : List Hop) (start now : ℕ) (target : List ℕ) (request : Request) (reply : Reply)
-        → behind site silent hops start now target request reply → Tells hops start now target request reply
-    knows [] start now target request reply h = inl (
+  module _ (site : Site) (silent : List Hop → ℕ → Bool) (hops : List Hop) {caching : Caching} {start now : ℕ}
+      {target : List ℕ} {request : Request} {reply : Reply}
+      (f : IsFromStore caching (behind site silent hops) (silent hops) start now target request reply) where
+    own_stored : IsOwn site silent hops (came f).sent (came f).received target (first f) (came f).reply
+        → IsOwn site silent (Stores caching ∷ hops) start now target request reply
+    own_stored own = record {
+      reason = inr (inl (
+        f,
         record {
-          told = record {
-            time = h.0;
-            said = h.3.said;
-            left = h.0;
-            since = omega arith;
-            after = h.1;
-            past = h.2;
-            aged = inr (omega arith);
-            good = inl refl;
-            connection = says_close_at_most _ _ _ _ h.3;
-          };
-          once = λ some. refl;
-        }
-        )
-    knows (Forwards gateway ∷ hops) start now target request reply (inr h) =
-        inr (record { reason = inr h.0; blank = h.1 })
-    knows (Forwards gateway ∷ hops) start now target request reply (inl f) =
-        let p = f.passed in
-        elim (knows hops p.sent p.came target p.next f.behind p.answered) [
-          | inl t ↦
-              let passed = p.there.passed in
-              let same = as_meant reads p.next passed.protocol passed.authority (few_options p.there) hops in
-              inl (through reads f (told_as (turned same) t))
-          | inr k ↦ inr (record { reason = inl (f, k.reason); blank = blank_behind f.back k.blank })
-        ]
-    knows (Stores caching ∷ hops) start now target request reply (inl h) =
-        comes_through hops (knows hops) caching start now target request reply h
-    knows (Stores caching ∷ hops) start now target request reply (inr (inl f)) =
-        from_store hops (knows hops) caching f
-    knows (Stores caching ∷ hops) start now target request reply (inr (inr (inl v))) =
-        from_304 hops (knows hops) caching v
-    knows (Stores caching ∷ hops) start now target request reply (inr (inr (inr h))) =
-        inr (record { reason = inr (inr h.0); blank = h.1 })
+          sent = (came f).sent;
+          came = (came f).received;
+          past = omega (arith, (came f).past, f.past);
+          first = first f;
+          plain = plain_first law f;
+          given_reply = (came f).reply;
+          given = own.reason;
+          status = (status_is f);
+        },
+      ));
+      blank = record {
+        content = once_more law f [] (own.blank.content ∙ sym (nothing (first f).method)) ∙ nothing request.method;
+        fields = λ name c. lacks law f name c.not_age (date_not_carried _ c) (own.blank.fields name c);
+      };
+    }
 
+    from_store : IsTold site silent hops (came f).sent (came f).received target (first f) (came f).reply
+        → IsTold site silent (Stores caching ∷ hops) start now target request reply
+    from_store t =
+        let server = site (named_host (first f)) target in
+        let said = t.said in
+        let at_most = t.connection in
+        let stored = λ (name : List ℕ) (c : IsCarried name). stored_as law f at_most name
+        c.end_to_end c.not_close (date_not_carried _ c) in
+        let varies = stored (codes "vary") vary_carried ∙ said.fields (codes "vary") vary_carried in
+        let asked_now = asked_first law f in
+        let now_said = some_answer (second_of t.time) (server.resource t.time) asked_now (server.fits t.time) in
+        let both_alike = alike_first law f in
+        let same = suited sound members (second_of t.time) (server.resource t.time) (first f) asked_now said.answer
+        now_said.0 (server.own t.time (came f).reply.status) said.is now_said.1 both_alike (suits law f
+        (set_all (server.own t.time (came f).reply.status) (fields_of said.answer.fields.items)) varies) in
+        let aged = counts law f at_most t.time t.left (caches hops) t.since t.after t.past t.aged in
+        let told : IsSaid server t.time request reply = record {
+          answer = now_said.0;
+          is = allowed_answer reads heads target request f.found.sought.plain (first f).method (allowed_method law f)
+              (second_of t.time) (server.resource t.time) now_said.0 now_said.1;
+          status = sym same.status ∙ said.status ∙ ap (λ (n : ℕ). Some n) (sym (status_is f));
+          content = once_more law f (server.content t.time (came f).reply.status (sent_of said.answer.sends))
+              said.content ∙ ap
+              (λ (sent : _). unless_head request.method (server.content t.time (came f).reply.status sent))
+              (same_sent _ _ same.sends) ∙ ap
+              (λ (n : ℕ). unless_head request.method (server.content t.time n (sent_of now_said.0.sends)))
+              (sym (status_is f));
+          fields = λ name c. f.fields name c.not_age ∙ stored name c ∙ said.fields name c
+              ∙ ap (λ fields. set_all (server.own t.time (came f).reply.status) fields name) same.fields
+              ∙ ap (λ (n : ℕ). set_all (server.own t.time n) (fields_of now_said.0.fields.items) name)
+              (sym (status_is f));
+        } in
+        record {
+          time = t.time;
+          said = subst (λ (lines : List Line). IsSaid (site lines target) t.time request reply)
+              (named_alike (first f) asked_now both_alike) told;
+          left = f.time;
+          since = omega (arith, t.since, t.past, (came f).past);
+          after = f.after;
+          past = f.past;
+          aged = subst (λ (n : ℕ). Counts n (caches hops + 1) t.time f.time) (sym (age_is law f)) aged;
+          good = inr (
+              record {
+                caching = caching;
+                nearer = [];
+                further = hops;
+                on_the_way = refl;
+                asked = request;
+                method = refl;
+                directs = refl;
+                arrived = start;
+                after = omega arith;
+                stored = f.stored;
+                status = f.status;
+                same = λ name c. f.fields name c.not_age;
+                date = λ has. f.fields (codes "date") (λ e. absurd (cc e));
+                found = good_at law f t.time t.left (caches hops + 1) t.since t.past aged;
+              }
+              );
+          connection = quiet law f;
+        }
+
+  -- ---- a chain
+
+  module _ (site : Site) (silent : List Hop → ℕ → Bool) where
     pub tells : (hops : List Hop) (start now : ℕ) (target : List ℕ) (request : Request) (reply : Reply)
         → behind site silent hops start now target request reply
         → IsTold site silent hops start now target (meant hops request) reply
         ⊎ IsOwn site silent hops start now target request reply
-    tells hops start now target request reply h = elim (knows hops start now target request reply h) [
-      | inl t ↦ inl t.told
-      | inr own ↦ inr own
-    ]
+    tells [] start now target request reply h = inl (
+        record {
+          time = h.0;
+          said = h.3.said;
+          left = h.0;
+          since = omega arith;
+          after = h.1;
+          past = h.2;
+          aged = inr (omega arith);
+          good = inl refl;
+          connection = says_close_at_most _ _ _ _ h.3;
+        }
+        )
+    tells (Forwards gateway ∷ hops) start now target request reply (inr h) =
+        inr (record { reason = inr h.0; blank = h.1 })
+    tells (Forwards gateway ∷ hops) start now target request reply (inl f) =
+        let p = f.passed in
+        elim (tells hops p.sent p.came target p.next f.behind p.answered) [
+          | inl t ↦
+              let passed = p.there.passed in
+              let same = as_meant reads p.next passed.protocol passed.authority (no_options p.there) hops in
+              inl (through reads f (told_as (turned same) t))
+          | inr k ↦ inr (record { reason = inl (f, k.reason); blank = blank_behind f.back k.blank })
+        ]
+    tells (Stores caching ∷ hops) start now target request reply (inl h) =
+        elim (tells hops start now target request reply h) [
+          | inl t ↦
+              inl (told_by (Stores caching ∷ []) start now (omega arith) (omega arith) (stays _) t
+              (itself reply t.connection))
+          | inr k ↦ inr (record { reason = inl k.reason; blank = k.blank })
+        ]
+    tells (Stores caching ∷ hops) start now target request reply (inr (inr h)) =
+        inr (record { reason = inr (inr h.0); blank = h.1 })
+    tells (Stores caching ∷ hops) start now target request reply (inr (inl f)) =
+        elim (tells hops (came f).sent (came f).received target (first f) (came f).reply (came f).answered) [
+          | inl t ↦
+              let meant_first = plain_meant reads (first f) (plain_first law f) hops in
+              let meant_this = plain_meant reads request f.found.sought.plain hops in
+              inl (told_as meant_this (from_store site silent hops f (told_as (turned meant_first) t)))
+          | inr own ↦ inr (own_stored site silent hops f own)
+        ]

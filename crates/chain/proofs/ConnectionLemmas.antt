@@ -13,7 +13,7 @@ not_close name other = elim (cases_Bool (bytes_eq (codes "close") (lowercase nam
   | inr f ↦ f
 ]
 
-pub names_none : (closes : Bool) (name : List ℕ) → lowercase name ≢ codes "close"
+names_none : (closes : Bool) (name : List ℕ) → lowercase name ≢ codes "close"
     → is_named (field_members true (connection_lines closes)) name ≡ false
 unfolding pieces push
 names_none true name other = ap (λ (b : Bool). b || false) (not_close name other)

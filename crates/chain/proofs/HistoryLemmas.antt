@@ -26,7 +26,6 @@ use Rattle.chain.specs.Sharing.{IsAsked, IsConfirmed, IsContentSince, IsHeld, Is
 use Rattle.chain.specs.Sharing.{TakesAnswer, right, sent, storing_by, storing_of, tag_of, updated, varies}
 use Rattle.chain.proofs.RunLemmas.{Keeps, Stays, asked_in, freshen, place, run_from-append, stays-refl, take}
 use Rattle.chain.proofs.{RunLemmas.{take-stays, take-stores}, SharingLemmas.{matching, may-be, nth-end, of-new}}
-use Rattle.chain.proofs.SuitLemmas.{get_alone}
 use Rattle.chain.proofs.SharingLemmas.{sends-stored, stored-anew}
 
 -- ---- what a stored response has of the one that came
@@ -80,7 +79,10 @@ module _ (policy : Policy) (came stored : StoredResponse) (fair : HasFairOptions
     tag = of.tag ∙ tag-stays;
   }
 
--- ---- what a lookup serves
+-- ---- methods, and what a lookup serves
+
+get_alone : (m n : List ℕ) → AllowsMethod m n → n ≡ codes "GET" → m ≡ codes "GET"
+get_alone m n allows get = grind arith
 
 pub record WasFound (policy : Policy) (calls : History) (contents : Contents) (target : List ℕ) (request : Request)
     (stored : StoredResponse) : Type 0 where

@@ -1,6 +1,6 @@
 -- A client, a gateway, a cache that answers from its store, and the server of a resource that is gone.
 use Rattle.std.proofs.Common.{◌≡◌, ◌≢◌, ◌⊎◌, ℕ, zero, suc, ◌<◌, ◌≤◌, true, false, List, [], ◌∷◌, ◌++◌, map, Some, None}
-use Rattle.std.proofs.{Common.{Option, refl, sym, ◌∙◌, subst, inl, inr, arith}, lemmas.Bool.cases_Bool}
+use Rattle.std.proofs.{Common.{refl, sym, ◌∙◌, subst, inl, inr, arith}, lemmas.Bool.cases_Bool}
 use Rattle.std.proofs.lemmas.{Slice.Eq.bytes_eq-Decides, List.Elements.{All-cons, All-nil}, Option.same_Some}
 use Rattle.{std.specs.Prelude.{All, bytes_eq, codes, decimal, slice_get, ⊤}, http_header.specs.FieldValue.FieldValue}
 use Rattle.http_header.specs.{FieldValue.plain_value, HeaderMap.Entries, Token.is_token_byte}
@@ -14,21 +14,16 @@ use Rattle.cache_rules.specs.declared.{storing.Reception.TheVariants.Complete, s
 use Rattle.gateway_messages.specs.{FieldLines.{fields_of as sent_fields, lines_under}, Forwarding.IsEndToEnd}
 use Rattle.gateway_messages.specs.{Forwarding.{IsHopByHop, own_names}, HostTests.is_reg_name, Responses.content_of}
 use Rattle.gateway_messages.specs.{Spellings.is_misspelt, declared.field_line.FieldLine.FieldLine}
-use Rattle.gateway_messages.specs.declared.request.ForwardedRequest.{ForwardedRequest}
 use Rattle.gateway_messages.specs.declared.{gateway.Gateway.Gateway, framing.Framing.TheVariants.Unstated}
 use Rattle.{gateway_messages.specs.declared.protocol.Protocol.TheVariants.Http11, decide_cors.proofs.MadeLemmas.vec}
-use Rattle.decide_resource.specs.{Answers.{GivesIf, HasFewParts, TakesFew, is_admitted}, Applies.{applies, rule_for}}
-use Rattle.decide_resource.specs.{Fields.{denied_status, status_of}, Reasons.{Before, IsFirst}}
-use Rattle.decide_resource.specs.declared.denied.Denied.{Denied as Denial}
+use Rattle.decide_resource.specs.{Answers.{HasFewParts, TakesFew}, Applies.{applies, rule_for}, Reasons.Before}
 use Rattle.decide_resource.specs.{Requests.Request, declared.reason.Reason.Reason}
 use Rattle.decide_resource.specs.declared.{request.RequestContent.TheVariants.Absent, resource.Resource.Resource}
 use Rattle.chain.specs.Caches.{Caching, HasComeFrom, IsFromStore, IsPlain, Origin, Reply, Act.Takes, asked, key_of}
-use Rattle.chain.specs.{Caches.{per_second, second_of, with_conditions}, Chains.{IsSentBack, behind}}
-use Rattle.chain.specs.{Instances.IsInstance, Servers.{IsSaid, IsSent, SaysWhatHasChanged}}
+use Rattle.chain.specs.{Caches.per_second, Chains.{IsSentBack, behind}, Instances.IsInstance, Servers.{IsSaid, IsSent}}
 use Rattle.chain.{specs.{Servers.Server, Ways.IsSentOn}, proofs.AgeLemmas.age_of-decimal}
 use Rattle.chain.proofs.ServingLemmas.{without_special}
 use Rattle.decide_resource.specs.declared.answer.Sends.TheVariants as sends
-use Rattle.decide_resource.specs.declared.denied.Denied.TheVariants as denials
 use Rattle.decide_resource.specs.declared.reason.Reason.TheVariants as reasons
 use Rattle.decide_resource.specs.declared.resource.State.TheVariants as state
 
@@ -177,28 +172,13 @@ fair_asked name = each (IsFair (host_line ∷ [])) (codes "host" ∷ codes "via"
     (inl (refl, refl, λ own. refl), (inl (refl, refl, λ own. absurd (own 0 [] (omega arith) refl)), tt))
     (λ apart. inr (rw (apart.0, apart.1.0) refl, rw apart.0 refl))
 
-abbrev forwarded : ForwardedRequest
-forwarded =
-    record { framing = Unstated; hops = None; fields = vec (sent (host_line ∷ via_line ∷ [])) (omega arith) }
-
 there : IsSentOn gateway request next
 unfolding is_reg_name
 there = record {
-  fields = sent_fields forwarded.fields.items;
-  sent = inl (
-    forwarded,
-    assumption
-        (crosses (host_line ∷ []) fair_asked, drops (host_line ∷ []) fair_asked, ends (host_line ∷ []) fair_asked),
-    refl,
-  );
-  passed = record {
-    protocol = refl;
-    method = refl;
-    authority = refl;
-    content = refl;
-    denied = refl;
-    fields = passed_fields;
-  };
+  sent = record { framing = Unstated; hops = None; fields = vec (sent (host_line ∷ via_line ∷ [])) (omega arith) };
+  forwarded = assumption
+      (crosses (host_line ∷ []) fair_asked, drops (host_line ∷ []) fair_asked, ends (host_line ∷ []) fair_asked);
+  passed = assumption passed_fields;
 }
   where
     passed_fields : (name : List ℕ) → next.fields name ≡ after (host_line ∷ []) name
@@ -256,8 +236,7 @@ back = record {
         (crosses served_lines fair_served, drops served_lines fair_served, ends served_lines fair_served);
   };
   status = refl;
-  fields = λ name other. refl;
-  closes = (false, refl);
+  fields = λ name. refl;
   content = refl;
 }
 
@@ -403,37 +382,16 @@ sends_it : IsSent server 0 next (replies (before stored_lines))
 unfolding said
 sends_it = record { said = said; closes = false; connection = refl; framed = λ known. (Unstated, (refl, refl)) }
 
--- it says no 304
-no_denied : (why : Option Denial) → denied_status why ≡ 304 → ⊥
-no_denied None e = omega (arith, e)
-no_denied (Some (denials.Unauthenticated challenge)) e = omega (arith, e)
-no_denied (Some why) e = omega (arith, e)
-
-no_304 : (why : Option Denial) (reason : Reason) → status_of state.Gone why reason ≡ 304 → ⊥
-no_304 why reasons.Denied e = no_denied why e
-no_304 why reason e = omega (arith, e)
-
-never : (time : ℕ) (asks : Request) (reply : Reply) → IsSaid server time asks reply → reply.status ≡ 304 → ⊥
-never time asks reply said e = by said.answer.reason said.is.first said.is.gives
-  where
-    by : (reason : Reason) → IsFirst (applies (second_of time) gone asks) reason
-        → GivesIf (is_admitted reason) (second_of time) gone asks reason said.answer.status said.answer.sends
-        said.is.own → ⊥
-    by reasons.Admitted first gives = cc (first.none_before reasons.Gone (omega arith))
-    by reason first gives = no_304 asks.denied reason (same_Some _ _ (sym gives.has_status ∙ said.status) ∙ e)
-
-says : SaysWhatHasChanged server
-says time other asks tags dates full confirmed get is said e about =
-    absurd (never time (with_conditions tags dates asks) confirmed said e)
-
 came : HasComeFrom caching.clock origin per_second (codes "/") next stored
 came = record {
   sent = 0;
   received = 0;
   reply = replies (before stored_lines);
-  trip = record { set_before = omega arith; after = omega arith; past = omega arith };
-  answered = inl (0, omega arith, omega arith, sends_it);
+  answered = (0, omega arith, omega arith, sends_it);
   noted = assumption;
+  set_before = omega arith;
+  after = omega arith;
+  past = omega arith;
 }
 
 from_store : IsFromStore caching origin (λ time. false) per_second per_second (codes "/") next served
@@ -454,22 +412,18 @@ from_store = record {
   stored = stored;
   at = refl;
   serves = inl (refl, refl);
-  served = record {
-    status = refl;
-    content = refl;
-    fields = λ name.
-        each (λ (name : List ℕ). name ≢ codes "age" → before served_lines name ≡ before stored_lines name)
-        (codes "cache-control" ∷ codes "date" ∷ codes "age" ∷ []) name
-        ((λ other. refl), ((λ other. refl), ((λ other. absurd (other refl)), tt)))
-        (λ apart other. rw (apart.0, apart.1.0, apart.1.1.0) refl);
-    has_age = refl;
-  };
+  status = refl;
+  content = refl;
+  fields = λ name. each (λ (name : List ℕ). name ≢ codes "age" → before served_lines name ≡ before stored_lines name)
+      (codes "cache-control" ∷ codes "date" ∷ codes "age" ∷ []) name
+      ((λ other. refl), ((λ other. refl), ((λ other. absurd (other refl)), tt)))
+      (λ apart other. rw (apart.0, apart.1.0, apart.1.1.0) refl);
+  has_age = refl;
 }
 
 pub instance : IsInstance
 instance = record {
   server = server;
-  says = says;
   gateway = gateway;
   caching = caching;
   request = request;

@@ -1,5 +1,4 @@
 mod AgeLemmas
-mod AskingLemmas
 mod ChainLemmas
 mod CheckLemmas
 mod ConnectionLemmas

@@ -1,36 +1,29 @@
 -- What a cache serves from its store came from those behind it.
 use Rattle.std.proofs.Common.{◌≡◌, ◌≢◌, ◌⊎◌, ℕ, ◌+◌, ◌-◌, ◌*◌, ◌≤◌, Bool, true, false, List, [], ◌∷◌, ◌++◌, refl, ◌∙◌}
-use Rattle.std.proofs.Common.{ap, arith, inl, inr, subst, sym}
-use Rattle.std.proofs.lemmas.{Bool.{and_parts, cases_Bool, Decides.nat_tests}}
-use Rattle.std.proofs.lemmas.{List.{Elements.All-weaker, Folds.list_any-append}, Slice.Eq.bytes_eq-Decides}
-use Rattle.std.specs.{List.{list_all, list_any}, Prelude.{◌||◌, ◌==◌, All, bytes_eq, codes, length}}
-use Rattle.std.specs.Prelude.{⊤, max, nat_lt, not, unwrap_or}
-use Rattle.{http_header.specs.Token.lowercase, headers.specs.LineMap.{Field, LineMap}}
+use Rattle.std.proofs.{Common.{ap, arith, inl, inr, subst, sym}, lemmas.Bool.{and_parts, Decides.nat_tests}}
+use Rattle.std.{proofs.lemmas.List.Elements.All-weaker, specs.{List.list_all, Prelude.{◌||◌, ◌==◌, not, codes, max}}}
+use Rattle.{std.specs.Prelude.unwrap_or, http_header.specs.Token.lowercase, headers.specs.LineMap.{Field, LineMap}}
 use Rattle.headers.specs.{LineMap.lines_at, Lines.{Line, only_line}, Text.is_text, Typed.HasLine}
-use Rattle.cache_store.specs.{Changes.IsStoredAs, Contents.{Contents, responses_at}}
+use Rattle.cache_store.specs.{Changes.{IsStoredAs, IsToStore}, Contents.{Contents, responses_at}}
 use Rattle.cache_store.specs.{Served.{IsRightlyServed, Serves}, declared.{limits.Limits.Limits, lookup.Lookup.Lookup}}
 use Rattle.cache_store.specs.{declared.lookup.Lookup.TheVariants.ValidateOrServe, Numbers.numbered, History.HasUnder}
 use Rattle.cache_store.specs.{History.{History, IsJustified, Run}, Lookups.{IsAnswer, IsFreshFor, age_of_stored}}
 use Rattle.cache_store.{specs.Lookups.freshness_of, proofs.HistoryLemmas.HasUnder-responses_at}
 use Rattle.{cache_store.proofs.NumberLemmas.Has-numbered, cache_policy.specs.Age.{age_at, apparent_age}}
-use Rattle.cache_policy.specs.{Fields.{age_value, capped}, Freshening.{freshened, is_kept_name}}
-use Rattle.cache_policy.specs.{Requests.AllowsMethod, Updating.IsUpdated}
+use Rattle.cache_policy.specs.{Fields.{age_of, age_value, capped}, Requests.AllowsMethod}
 use Rattle.decide_preconditions.specs.Preconditions.{IsGetOrHead}
 use Rattle.cache_policy.specs.{Requests.Request as Asked, Storing.IsShareable, Targets.governing}
 use Rattle.cache_policy.specs.declared.{Governing.Governing, Kind.{Kind, TheVariants.{Private, Shared}}}
-use Rattle.cache_policy.specs.{Varying.Agree, Policies.{AnswersUnder, MayStoreUnder, Policy, tells}}
+use Rattle.cache_policy.specs.{Varying.{Agree, Suits}, Policies.{AnswersUnder, Policy, tells}}
 use Rattle.cache_rules.{proofs.StoringLemmas.governed_alike, specs.{Selection.IsCandidate, Stored.fields_of_stored}}
-use Rattle.cache_rules.specs.{Freshening.{IsFreshened, aged_anew}, Stored.{request_of_stored, times_of}}
-use Rattle.cache_rules.specs.Storing.{is_lost}
-use Rattle.cache_rules.specs.declared.freshening.Exchange.{Exchange}
+use Rattle.cache_rules.specs.{Stored.times_of, declared.storing.Reception.Reception}
 use Rattle.{cache_rules.specs.declared.stored.StoredResponse.StoredResponse, chain.specs.Caches.{Act, Act.Looks}}
-use Rattle.chain.specs.Caches.{Act.{Confirms, Drops, Takes}, Caching, Fails, HasAfter, HasComeFrom, IsConfirmed}
-use Rattle.chain.specs.Caches.{IsFromStore, IsPlain, IsTrip, Origin, Reply, ServesOnError, asked, calls_of, key_of}
-use Rattle.chain.specs.Caches.{per_second, second_of, shown, unless_head}
-use Rattle.chain.specs.{Chains.{Counts, FindsGood, IsGood, IsGoodOnError}}
-use Rattle.chain.proofs.AgeLemmas.{age_of-decimal}
+use Rattle.chain.specs.Caches.{Act.{Takes, Drops}, Caching, Fails, HasAfter, HasComeFrom, IsFromStore, IsPlain, Origin}
+use Rattle.chain.specs.Caches.{Reply, ServesOnError, asked, calls_of, key_of, per_second, second_of, shown, unless_head}
+use Rattle.chain.specs.{Chains.{Counts, FindsGood, IsGood, IsGoodOnError}, Servers.SaysCloseAtMost}
+use Rattle.chain.proofs.{AgeLemmas.age_of-decimal, ConnectionLemmas.crosses_if}
 use Rattle.rfc_fields.specs.{Members.field_members, Scan.{Member, Member.{Whole, Malformed}}}
-use Rattle.gateway_messages.specs.HopByHop.{connection_options, hop_by_hop_fields, is_known, is_named, proxy_fields}
+use Rattle.gateway_messages.specs.HopByHop.{connection_options, is_hop_by_hop, is_known, is_named}
 use Rattle.decide_resource.specs.{Requests.Request, Vary.AreAlike}
 use Rattle.cache_policy.specs.declared.decision.Decision.TheVariants as decisions
 
@@ -49,14 +42,8 @@ JustifiesWhatIsStored =
     → (target : List ℕ) (stored : StoredResponse) → HasUnder contents target stored
     → IsJustified policy target calls stored
 
-abbrev pub StoresWhatMayBe : Type 0
-StoresWhatMayBe =
-    (policy : Policy) (limits : Limits) (calls : History) (contents : Contents) → Run policy limits calls contents
-    → (target : List ℕ) (stored : StoredResponse) → HasUnder contents target stored
-    → MayStoreUnder policy (request_of_stored stored) stored.status (fields_of_stored stored)
-
 abbrev pub StoreLaws : Type 0
-StoreLaws = ServesWhatIsJustified × JustifiesWhatIsStored × StoresWhatMayBe
+StoreLaws = ServesWhatIsJustified × JustifiesWhatIsStored
 
 -- ---- keys
 
@@ -101,172 +88,46 @@ one_key t u r s h k e =
 
 -- ---- how it came
 
--- names of no field that a cache writes are told apart from those
-pub told_apart : (name : List ℕ) → name ≢ codes "age" → name ≢ codes "date"
-    → (bytes_eq (codes "age") name ≡ false) × (bytes_eq (codes "date") name ≡ false)
-told_apart name not_age not_date = (by (codes "age") not_age, by (codes "date") not_date)
-  where
-    by : (own : List ℕ) → name ≢ own → bytes_eq own name ≡ false
-    by own other = elim (cases_Bool (bytes_eq own name)) [
-      | inl t ↦ absurd (other (sym ((bytes_eq-Decides own name).0 t)))
-      | inr f ↦ f
-    ]
-
--- the fields of one connection, and of a proxy, are no fields that a cache writes
-hop_known : (name : List ℕ) → is_known true name ≡ true → (name ≢ codes "age") × (name ≢ codes "date")
-hop_known name known = (
-  (λ e. absurd (cc (subst (λ (n : List ℕ). is_known true n ≡ true) e known))),
-  (λ e. absurd (cc (subst (λ (n : List ℕ). is_known true n ≡ true) e known))),
-)
-
--- no update changes them
-kept_known : (name : List ℕ) → is_known true name ≡ true → is_kept_name name ≡ true
-unfolding is_kept_name
-kept_known name known =
-    let others = codes "content-length" ∷ codes "content-encoding" ∷ codes "content-range" ∷ [] in
-    list_any-append (bytes_eq name) (hop_by_hop_fields ++ proxy_fields) others
-    ∙ ap (λ (b : Bool). b || list_any (bytes_eq name) others)
-    (list_any-append (bytes_eq name) hop_by_hop_fields proxy_fields ∙ known)
-
-pub kept_bare : (second : ℕ) (stored update : LineMap) (name : List ℕ) → is_known true name ≡ true → stored name ≡ []
-    → freshened (aged_anew second stored) update name ≡ []
-kept_bare second stored update name known none =
-    let kept = kept_known name known in
-    let apart = told_apart name (hop_known name known).0 (hop_known name known).1 in
-    elim (cases_Bool (nat_lt 0 (length (update name)))) [
-      | inl t ↦ rw (t, kept, apart.0, apart.1) none
-      | inr f ↦ rw (f, apart.0, apart.1) none
-    ]
-
 module _ (caching : Caching) (origin : Origin) (now : ℕ) where
   -- the acts of a cache are calls of its store
-  pub runs : (acts : List Act) (contents : Contents) → HasAfter caching origin now acts contents
+  runs : (acts : List Act) (contents : Contents) → HasAfter caching origin now acts contents
       → Run caching.policy caching.limits (calls_of acts) contents
   runs [] contents h = h
   runs (Looks target request ∷ acts) contents h = (h.0, runs acts h.0 h.1, h.2.1)
   runs (Takes target request came reception ∷ acts) contents h = (h.0, runs acts h.0 h.1, h.2.2)
-  runs (Confirms target request confirmed exchange ∷ acts) contents h = (h.0, runs acts h.0 h.1, h.2.1)
   runs (Drops key ∷ acts) contents h = (h.0, runs acts h.0 h.1, h.2)
 
-  -- what is known of a stored response to a request to a target, that was sent on, and answered, at these times
-  module _ (Says : List ℕ → Request → ℕ → ℕ → StoredResponse → Type 0) where
-    -- The stored response came for a plain request with this key. Those behind the cache said or confirmed it at these
-    -- times. Its content came in the first reply.
-    pub record Held (key : List ℕ) (stored : StoredResponse) : Type 0 where
-      pub target : List ℕ
-      pub request : Request
-      pub plain : IsPlain target request
-      pub same : key_of target request ≡ key
-      pub method : stored.method ≡ request.method
-      pub lines : (name : List ℕ) → lines_at stored.request name ≡ request.fields name
-      pub sent : ℕ
-      pub received : ℕ
-      pub trip : IsTrip caching.clock now sent received
-      pub requested_at : stored.requested ≡ shown caching.clock sent
-      pub received_at : stored.received ≡ shown caching.clock received
-      pub says : Says target request sent received stored
-      pub bare : (name : List ℕ) → is_known true name ≡ true → fields_of_stored stored name ≡ []
-      pub came : StoredResponse
-      pub first : HasComeFrom caching.clock origin now target request came
-      pub content : stored.content ≡ first.reply.content
-      pub lost : LineMap
-      pub unlost : list_any (is_lost lost) caching.policy.targets ≡ false
+  -- a stored response came for a plain request with this key
+  pub record HasCome (key : List ℕ) (stored : StoredResponse) : Type 0 where
+    pub target : List ℕ
+    pub request : Request
+    pub plain : IsPlain target request
+    pub came : StoredResponse
+    pub reception : Reception
+    pub from : HasComeFrom caching.clock origin now target request came
+    pub same : key_of target request ≡ key
+    pub allowed : IsToStore caching.policy came reception
+    pub kept : IsStoredAs came stored
 
-    abbrev pub IsStoring : Type 0
-    IsStoring = (target : List ℕ) (request : Request) (came stored : StoredResponse) → IsPlain target request
-        → (c : HasComeFrom caching.clock origin now target request came) → IsStoredAs came stored
-        → ((name : List ℕ) → is_known true name ≡ true → fields_of_stored stored name ≡ [])
-        → Says target request c.sent c.received stored
-
-    abbrev pub IsRenewing : Type 0
-    IsRenewing = (target : List ℕ) (request : Request) (confirmed : Reply) (exchange : Exchange)
-        (c : IsConfirmed caching.clock origin now target request confirmed exchange) (old new : StoredResponse)
-        (h : Held (key_of target request) old) → IsCandidate (asked request) old
-        → IsUpdated (fields_of_stored old) confirmed.fields → IsFreshened old confirmed.fields exchange new
-        → IsCandidate (asked request) new
-        → ((name : List ℕ) → is_known true name ≡ true → fields_of_stored new name ≡ [])
-        → Says h.target h.request c.sent c.received new
-
-    module _ (stores : IsStoring) (renews : IsRenewing) where
-      renewed_held : (target : List ℕ) (request : Request) (confirmed : Reply) (exchange : Exchange)
-          (c : IsConfirmed caching.clock origin now target request confirmed exchange) (old new : StoredResponse)
-          (h : Held (key_of target request) old) → IsCandidate (asked request) old
-          → IsUpdated (fields_of_stored old) confirmed.fields → IsFreshened old confirmed.fields exchange new
-          → IsCandidate (asked request) new → Held (key_of target request) new
-      renewed_held target request confirmed exchange c old new h fits about fresh suits =
-          let bare = λ (name : List ℕ) (known : is_known true name ≡ true). fresh.fields name
-          ∙ kept_bare exchange.received (fields_of_stored old) confirmed.fields name known (h.bare name known) in
-          record {
-            target = h.target;
-            request = h.request;
-            plain = h.plain;
-            same = h.same;
-            method = fresh.method ∙ h.method;
-            lines = λ name. ap (λ m. lines_at m name) fresh.request ∙ h.lines name;
-            sent = c.sent;
-            received = c.received;
-            trip = c.trip;
-            requested_at = fresh.requested ∙ c.requested_at;
-            received_at = fresh.received ∙ c.received_at;
-            says = renews target request confirmed exchange c old new h fits about fresh suits bare;
-            bare = bare;
-            came = h.came;
-            first = h.first;
-            content = fresh.content ∙ h.content;
-            lost = h.lost;
-            unlost = h.unlost;
-          }
-
-      pub held : (key : List ℕ) (stored : StoredResponse) (acts : List Act) (contents : Contents)
-          → HasAfter caching origin now acts contents → IsJustified caching.policy key (calls_of acts) stored
-          → Held key stored
-      held key stored [] contents h j = absurd j
-      held key stored (Looks target request ∷ acts) contents h j = held key stored acts h.0 h.1 j
-      held key stored (Takes target request came reception ∷ acts) contents h (inl j) = held key stored acts h.0 h.1 j
-      held key stored (Takes target request came reception ∷ acts) contents h (inr j) =
-          let c = h.2.1 in
-          let kept : IsStoredAs came stored = j.2 in
-          let bare = λ (name : List ℕ) (known : is_known true name ≡ true). kept.fields.hop_by_hop name
-          (ap (λ (b : Bool). b || is_named (connection_options (fields_of_stored came)) name) known)
-          (hop_known name known).1 in
-          record {
-            target = target;
-            request = request;
-            plain = h.2.0;
-            same = j.0;
-            method = kept.method ∙ c.noted.method;
-            lines = λ name. ap (λ m. lines_at m name) kept.request ∙ c.noted.asked_fields name;
-            sent = c.sent;
-            received = c.received;
-            trip = c.trip;
-            requested_at = kept.requested ∙ c.noted.requested_at;
-            received_at = kept.received ∙ c.noted.received_at;
-            says = stores target request came stored h.2.0 c kept bare;
-            bare = bare;
-            came = came;
-            first = c;
-            content = kept.content ∙ c.noted.content;
-            lost = fields_of_stored came;
-            unlost = j.1.fair.targeted;
-          }
-      held key stored (Confirms target request confirmed exchange ∷ acts) contents h (inl j) =
-          held key stored acts h.0 h.1 j
-      held key stored (Confirms target request confirmed exchange ∷ acts) contents h (inr (
-        same,
-        (
-          old,
-          was,
-          fits,
-          about,
-          fresh,
-          reusable,
-        ),
-      )) =
-          subst (λ (k : List ℕ). Held k stored) same (renewed_held target request confirmed exchange h.2.0 old stored
-          (held (key_of target request) old acts h.0 h.1
-          (subst (λ (k : List ℕ). IsJustified caching.policy k (calls_of acts) old) (sym same) was)) fits about fresh
-          reusable.1.suits)
-      held key stored (Drops other ∷ acts) contents h j = held key stored acts h.0 h.1 j.1
+  has_come : (key : List ℕ) (stored : StoredResponse) (acts : List Act) (contents : Contents)
+      → HasAfter caching origin now acts contents → IsJustified caching.policy key (calls_of acts) stored
+      → HasCome key stored
+  has_come key stored [] contents h j = absurd j
+  has_come key stored (Looks target request ∷ acts) contents h j = has_come key stored acts h.0 h.1 j
+  has_come key stored (Takes target request came reception ∷ acts) contents h (inl j) =
+      has_come key stored acts h.0 h.1 j
+  has_come key stored (Takes target request came reception ∷ acts) contents h (inr j) = record {
+    target = target;
+    request = request;
+    plain = h.2.0;
+    came = came;
+    reception = reception;
+    from = h.2.1;
+    same = j.0;
+    allowed = j.1;
+    kept = j.2;
+  }
+  has_come key stored (Drops other ∷ acts) contents h j = has_come key stored acts h.0 h.1 j.1
 
 -- ---- plain requests
 
@@ -308,12 +169,12 @@ plain_alike target r s h k host = record {
 }
 
 -- a stored response may answer its own method
-pub own_method : (m n : List ℕ) → AllowsMethod m n → AllowsMethod m m
+own_method : (m n : List ℕ) → AllowsMethod m n → AllowsMethod m m
 own_method m n (inl h) = inl (h.0, inl h.0)
 own_method m n (inr h) = inr (h.0, h.0)
 
 -- what a method leaves of a content, after the method of the stored response
-pub once : (m n : List ℕ) → AllowsMethod m n → (content : List ℕ)
+once : (m n : List ℕ) → AllowsMethod m n → (content : List ℕ)
     → unless_head n (unless_head m content) ≡ unless_head n content
 once m n allows content = grind arith
 
@@ -337,54 +198,18 @@ elapsed a b gone e = (omega (arith, e), omega (arith, e))
 
 -- The age of a stored response counts the time since it was said: that by which it was old when it came, and the time
 -- since the request by the clock, but for one second.
-module _ (own requested received x y shows sent left came now time apparent short : ℕ)
+module _ (given own requested received x y shows sent left came now time apparent short : ℕ) (same : own ≡ given)
     (requested_at : requested ≡ x) (received_at : received ≡ y) (waited : x ≤ y) (rested : y ≤ shows)
     (gone : now - sent ≤ per_second * (shows - x) + per_second) (since : time ≤ left) (after : sent ≤ left)
     (before : left ≤ came) (over : came ≤ now) where
   abbrev total : ℕ
   total = max apparent (own + (received - requested)) + (shows - received)
 
-  least : own + (shows - x) ≤ total
-  least = omega (arith, requested_at, received_at, waited, rested)
+  least : given + (shows - x) ≤ total
+  least = omega (arith, same, requested_at, received_at, waited, rested)
 
-  grows : Counts own short time left → Counts (capped total) (short + 1) time now
+  grows : Counts given short time left → Counts (capped total) (short + 1) time now
   grows counts = grind arith
-
--- ---- a stored response, and a request that it suits
-
-module _ {caching : Caching} {origin : Origin} {now : ℕ} {Says : List ℕ → Request → ℕ → ℕ → StoredResponse → Type 0}
-    {stored : StoredResponse} {target : List ℕ} {request : Request}
-    (h : Held caching origin now Says (key_of target request) stored) (plain : IsPlain target request)
-    (fits : IsCandidate (asked request) stored) where
-  -- it came for the same target and host
-  pub one : AreOne h.target target h.request request
-  one = one_key h.target target h.request request h.plain plain h.same
-
-  pub plain_first : IsPlain target h.request
-  plain_first = subst (λ (t : List ℕ). IsPlain t h.request) one.target h.plain
-
-  pub says_here : Says target h.request h.sent h.received stored
-  says_here = subst (λ (t : List ℕ). Says t h.request h.sent h.received stored) one.target h.says
-
-  pub allowed_method : AllowsMethod h.request.method request.method
-  allowed_method = subst (λ (m : List ℕ). AllowsMethod m request.method) h.method fits.method
-
-  -- the requests agree in what it names in Vary
-  pub agreed_on : All (Agree h.request.fields request.fields)
-      (field_members true (fields_of_stored stored (codes "vary")))
-  agreed_on = All-weaker (Agree (lines_at stored.request) request.fields) (Agree h.request.fields request.fields) agree
-      (field_members true (fields_of_stored stored (codes "vary"))) fits.fields
-    where
-      agree : (member : Member) → Agree (lines_at stored.request) request.fields member
-          → Agree h.request.fields request.fields member
-      agree (Whole name) k = (
-        k.0,
-        k.1,
-        rw (h.lines (lowercase name)) at k.2,
-      )
-      agree Malformed k = absurd k
-
--- ---- what a lookup serves
 
 module _ (law : StoreLaws) {caching : Caching} {origin : Origin} {silent : ℕ → Bool} {start now : ℕ}
     {target : List ℕ} {request : Request} {reply : Reply}
@@ -426,11 +251,9 @@ module _ (law : StoreLaws) {caching : Caching} {origin : Origin} {silent : ℕ �
       }
       )
 
-  has : HasUnder f.contents key f.stored
-  has = HasUnder-responses_at _ _ _ (Has-numbered _ _ _ f.at).0
-
   under : IsJustified caching.policy key calls f.stored
-  under = law.1 caching.policy caching.limits calls f.contents run key f.stored has
+  under = law.1 caching.policy caching.limits calls f.contents run key f.stored
+      (HasUnder-responses_at _ _ _ (Has-numbered _ _ _ f.at).0)
 
   on_error : (lookup : Lookup)
       → IsAnswer caching.policy caching.most (asked request) present (responses_at key f.contents) lookup
@@ -454,22 +277,68 @@ module _ (law : StoreLaws) {caching : Caching} {origin : Origin} {silent : ℕ �
   on_error other answer here failed aged = absurd here
 
   pub right : Right f.stored
-  right = elim f.serves [
-    | inl serves ↦ at_once serves
-    | inr (here, failed, aged) ↦ on_error f.lookup f.found.sought.answer here failed aged
-  ]
+  right = grind (arith, at_once, on_error)
 
   pub is_candidate : IsCandidate (asked request) f.stored
   is_candidate = right.matches
 
-  pub came : (Says : List ℕ → Request → ℕ → ℕ → StoredResponse → Type 0) → IsStoring caching origin f.time Says
-      → IsRenewing caching origin f.time Says → Held caching origin f.time Says key f.stored
-  came Says stores renews = held caching origin f.time Says stores renews key f.stored
-      (Looks target request ∷ f.found.acts) f.contents all_acts right.justified
+  pub come : HasCome caching origin f.time key f.stored
+  come = grind (arith, has_come, all_acts, right)
 
-  pub came_somehow : Held caching origin f.time (λ target request sent received stored. ⊤) key f.stored
-  came_somehow = came (λ target request sent received stored. ⊤) (λ target request came stored plain c kept bare. tt)
-      (λ target request confirmed exchange c old new h fits about fresh suits bare. tt)
+  -- it came for the same target and host
+  pub one : AreOne come.target target come.request request
+  one = one_key come.target target come.request request come.plain f.found.sought.plain come.same
+
+  pub plain_first : IsPlain target come.request
+  plain_first = subst (λ (t : List ℕ). IsPlain t come.request) one.target come.plain
+
+  pub from : HasComeFrom caching.clock origin f.time target come.request come.came
+  from = subst (λ (t : List ℕ). HasComeFrom caching.clock origin f.time t come.request come.came) one.target come.from
+
+  -- the request with the method of the stored response
+  abbrev pub asked_first : Request
+  asked_first = with_method come.request.method request
+
+  pub alike_first : AreAlike come.request asked_first
+  alike_first = plain_alike target come.request request plain_first f.found.sought.plain one.host
+
+  -- if at most the end of the connection was said of it, what isn't for one connection is stored as it came
+  module _ (at_most : SaysCloseAtMost from.reply.fields) where
+    pub stored_as : (name : List ℕ) → is_known true name ≡ false → lowercase name ≢ codes "close"
+        → name ≢ codes "date" → fields_of_stored f.stored name ≡ from.reply.fields name
+    stored_as name end_to_end not_close not_date =
+        let crosses = crosses_if true (fields_of_stored come.came)
+        (at_most.0, from.noted.fields (codes "connection") ∙ at_most.1) name end_to_end not_close in
+        come.kept.fields.end_to_end name (λ hop. absurd (cc (crosses, hop))) not_date ∙ from.noted.fields name
+
+  pub quiet : SaysCloseAtMost reply.fields
+  quiet = grind (arith, come)
+
+  pub allowed_method : AllowsMethod come.request.method request.method
+  allowed_method = grind arith
+
+  -- the request that it answered, as the cache stored it
+  pub suits : (response : LineMap) → fields_of_stored f.stored (codes "vary") ≡ response (codes "vary")
+      → Suits (asked come.request) (asked asked_first) response
+  suits response varies =
+      let stored_lines = λ (name : List ℕ).
+      ap (λ m. lines_at m name) come.kept.request ∙ from.noted.asked_fields name in
+      let each = agree stored_lines in
+      record {
+        method = own_method _ _ allowed_method;
+        fields = rw varies at (All-weaker (Agree (lines_at f.stored.request) request.fields)
+            (Agree come.request.fields request.fields) each
+            (field_members true (fields_of_stored f.stored (codes "vary"))) is_candidate.fields);
+      }
+    where
+      agree : ((name : List ℕ) → lines_at f.stored.request name ≡ come.request.fields name) → (member : Member)
+          → Agree (lines_at f.stored.request) request.fields member → Agree come.request.fields request.fields member
+      agree lines (Whole name) h = (
+        h.0,
+        h.1,
+        rw (lines (lowercase name)) at h.2,
+      )
+      agree lines Malformed h = absurd h
 
   -- Age of the reply
   abbrev pub counted : ℕ
@@ -478,63 +347,81 @@ module _ (law : StoreLaws) {caching : Caching} {origin : Origin} {silent : ℕ �
   pub age_is : age_value reply.fields ≡ counted
   age_is = grind (arith, right, age_of-decimal)
 
-  module _ {Says : List ℕ → Request → ℕ → ℕ → StoredResponse → Type 0}
-      (h : Held caching origin f.time Says key f.stored) where
-    -- it counts the time since what is stored was said or confirmed
-    pub counts : (time left short : ℕ) → time ≤ left → h.sent ≤ left → left ≤ h.received
-        → Counts (age_value (fields_of_stored f.stored)) short time left → Counts counted (short + 1) time f.time
-    counts time left short past after before aged =
-        let clock = caching.clock in
-        let trip = h.trip in
-        let over : h.sent ≤ f.time = omega (arith, trip.after, trip.past) in
-        let settled : clock.set ≤ h.received = omega (arith, trip.set_before, trip.after) in
-        let waited = elapsed _ _ _ (clock.runs h.sent h.received trip.set_before trip.after) in
-        let rested = elapsed _ _ _ (clock.runs h.received f.time settled trip.past) in
-        let gone = elapsed _ _ _ (clock.runs h.sent f.time trip.set_before over) in
-        grows (age_value (fields_of_stored f.stored)) f.stored.requested f.stored.received (shown clock h.sent)
-        (shown clock h.received) present h.sent left h.received f.time time
-        (apparent_age (times_of f.stored present) (fields_of_stored f.stored)) short h.requested_at h.received_at
-        waited.0 rested.0 gone.1 past after before trip.past aged
+  -- it counts the time since the reply came, and its age by then
+  pub counts : SaysCloseAtMost from.reply.fields → (time left short : ℕ) → time ≤ left → from.sent ≤ left
+      → left ≤ from.received → Counts (age_value from.reply.fields) short time left
+      → Counts counted (short + 1) time f.time
+  counts at_most time left short past after before aged =
+      let lines : age_value (fields_of_stored f.stored) ≡ age_value from.reply.fields
+      = ap age_of (stored_as at_most (codes "age") refl (λ e. absurd (cc e)) (λ e. absurd (cc e))) in
+      let clock = caching.clock in
+      let over : from.sent ≤ f.time = omega (arith, from.after, from.past) in
+      let then : clock.set ≤ from.received = omega (arith, from.set_before, from.after) in
+      let waited = elapsed _ _ _ (clock.runs from.sent from.received from.set_before from.after) in
+      let rested = elapsed _ _ _ (clock.runs from.received f.time then from.past) in
+      let gone = elapsed _ _ _ (clock.runs from.sent f.time from.set_before over) in
+      grows (age_value from.reply.fields) (age_value (fields_of_stored f.stored)) f.stored.requested f.stored.received
+      (shown clock from.sent) (shown clock from.received) present from.sent left from.received f.time time
+      (apparent_age (times_of f.stored present) (fields_of_stored f.stored)) short lines
+      (come.kept.requested ∙ from.noted.requested_at) (come.kept.received ∙ from.noted.received_at) waited.0 rested.0
+      gone.1 past after before from.past aged
 
-    -- so the cache finds it good enough
-    pub good_at : (time left short : ℕ) → time ≤ left → left ≤ h.received → Counts counted short time f.time
-        → FindsGood caching origin silent short time start f.time target request f.stored
-    good_at time left short past before aged = record {
-      came = h.received;
-      since = omega (arith, past, before);
-      past = h.trip.past;
-      received = h.received_at;
-      freshness = freshness_of right.lifetime f.stored present;
-      fresh_for = right.fresh_for;
-      old = aged;
-      good = right.good;
-    }
+  -- so the cache finds it good enough
+  pub good_at : (time left short : ℕ) → time ≤ left → left ≤ from.received → Counts counted short time f.time
+      → FindsGood caching origin silent short time start f.time target request f.stored
+  good_at time left short past before aged = record {
+    came = from.received;
+    since = omega (arith, past, before);
+    past = from.past;
+    received = come.kept.received ∙ from.noted.received_at;
+    freshness = freshness_of right.lifetime f.stored present;
+    fresh_for = right.fresh_for;
+    old = aged;
+    good = right.good;
+  }
 
-    pub quiet : reply.fields (codes "connection") ≡ []
-    quiet = f.served.fields (codes "connection") (λ e. absurd (cc e)) ∙ h.bare (codes "connection") refl
+  -- a field that didn't come isn't in the reply, but for those that a cache writes
+  pub lacks : (name : List ℕ) → name ≢ codes "age" → name ≢ codes "date" → from.reply.fields name ≡ []
+      → reply.fields name ≡ []
+  lacks name not_age not_date none = grind arith
 
-    -- ---- what a cache never gives away
+  -- ---- what a cache never gives away
 
-    governed_as : governing caching.policy.targets reply.fields
-        ≡ governing caching.policy.targets (fields_of_stored f.stored)
-    governed_as = governed_alike h.lost reply.fields (fields_of_stored f.stored)
-        (λ name hop age date. f.served.fields name age)
-        (f.served.fields (codes "cache-control") (λ e. absurd (cc e))) caching.policy.targets h.unlost
+  kept_control : fields_of_stored f.stored (codes "cache-control") ≡ from.reply.fields (codes "cache-control")
+  kept_control = grind arith
 
-    pub shareable : IsShareable caching.policy.kind h.request.fields (tells caching.policy reply.fields)
-    shareable = subst (λ (g : Governing). IsShareable caching.policy.kind h.request.fields g.directives)
-        (sym governed_as) (by caching.policy.kind
-        (law.2 caching.policy caching.limits calls f.contents run key f.stored has).shareable)
-      where
-        by : (k : Kind) → IsShareable k (lines_at f.stored.request) (tells caching.policy (fields_of_stored f.stored))
-            → IsShareable k h.request.fields (tells caching.policy (fields_of_stored f.stored))
-        by Private shares = tt
-        by Shared shares =
-            (shares.0, λ present. shares.1 (subst HasLine (sym (h.lines (codes "authorization"))) present))
+  governed_as : governing caching.policy.targets reply.fields
+      ≡ governing caching.policy.targets (fields_of_stored come.came)
+  governed_as = governed_alike (fields_of_stored come.came) reply.fields (fields_of_stored come.came)
+      (λ name hop age date. f.fields name age ∙ come.kept.fields.end_to_end name hop date) (
+      f.fields (codes "cache-control") (λ e. absurd (cc e)) ∙ kept_control
+      ∙ sym (from.noted.fields (codes "cache-control"))
+      ) caching.policy.targets come.allowed.fair.targeted
 
-    pub content_is : reply.content ≡ unless_head request.method h.first.reply.content
-    content_is = f.served.content ∙ ap (λ (c : List ℕ). unless_head request.method c) h.content
+  pub content_is : reply.content ≡ unless_head request.method from.reply.content
+  content_is = grind arith
 
-    -- fields of one connection are stored by no cache
-    pub stores_none : (name : List ℕ) → is_known true name ≡ true → reply.fields name ≡ []
-    stores_none name known = f.served.fields name (hop_known name known).0 ∙ h.bare name known
+  -- of what a server says to the first method
+  pub once_more : (content : List ℕ) → from.reply.content ≡ unless_head come.request.method content
+      → reply.content ≡ unless_head request.method content
+  once_more content said =
+      content_is ∙ ap (λ (c : List ℕ). unless_head request.method c) said ∙ once _ _ allowed_method content
+
+  pub shareable : IsShareable caching.policy.kind come.request.fields (tells caching.policy reply.fields)
+  shareable = subst (λ (g : Governing). IsShareable caching.policy.kind come.request.fields g.directives)
+      (sym governed_as) (by caching.policy.kind come.allowed.allowed.shareable)
+    where
+      by : (k : Kind) → IsShareable k (lines_at come.came.request) (tells caching.policy (fields_of_stored come.came))
+          → IsShareable k come.request.fields (tells caching.policy (fields_of_stored come.came))
+      by Private h = tt
+      by Shared h =
+          (h.0, λ present. h.1 (subst HasLine (sym (from.noted.asked_fields (codes "authorization"))) present))
+
+  -- fields of one connection are stored by no cache
+  pub stores_none : (name : List ℕ) → is_known true name ≡ true → reply.fields name ≡ []
+  stores_none name known =
+      let not_age : name ≢ codes "age" = λ e. absurd (cc (subst (λ (n : List ℕ). is_known true n ≡ true) e known)) in
+      let not_date : name ≢ codes "date" = λ e. absurd (cc (subst (λ (n : List ℕ). is_known true n ≡ true) e known)) in
+      let hop : is_hop_by_hop true (connection_options (fields_of_stored come.came)) name ≡ true
+      = ap (λ (b : Bool). b || is_named (connection_options (fields_of_stored come.came)) name) known in
+      f.fields name not_age ∙ come.kept.fields.hop_by_hop name hop not_date

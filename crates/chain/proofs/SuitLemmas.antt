@@ -1,13 +1,11 @@
 -- Requests that a cache takes for one by Vary get the same answers.
 use Rattle.std.proofs.Common.{◌≡◌, ◌≢◌, ◌↔◌, ℕ, Bool, true, false, List, [], ◌∷◌, refl, sym, ◌∙◌, ap, subst, inl, inr}
 use Rattle.std.proofs.{Common.{arith, bytes_eq}, lemmas.Bool.{cases_Bool, Decides.nat_tests}}
-use Rattle.std.{proofs.lemmas.{Slice.Eq.bytes_eq-Decides, List.Elements.{All-head, All-tail, All-weaker}}}
-use Rattle.std.specs.{List.list_all, Prelude.All}
+use Rattle.std.{proofs.lemmas.{Slice.Eq.bytes_eq-Decides, List.Elements.{All-head, All-tail}}, specs.Prelude.All}
 use Rattle.std.specs.{Prelude.{◌||◌, codes, if◌then◌else◌}, List.list_any, Char.to_ascii_lowercase}
 use Rattle.{http_header.specs.Token.lowercase, headers.specs.{LineMap.{LineMap, fields_of, set_all}, Lines.Line}}
 use Rattle.cache_policy.specs.{Varying.{Agree, SayTheSame, has_pairs, is_list_name, Suits}, Requests.AllowsMethod}
-use Rattle.rfc_fields.specs.{Directives.is_same_token, Members.{field_members, is_whole}}
-use Rattle.rfc_fields.specs.Scan.{Member, Member.{Whole, Malformed}}
+use Rattle.rfc_fields.specs.{Directives.is_same_token, Members.field_members, Scan.{Member, Member.{Whole, Malformed}}}
 use Rattle.{chain.specs.Caches.asked, decide_cors.specs.Cache.{Serves, nominates}}
 use Rattle.decide_resource.specs.{Answers.{AreSame, IsAnswer}, Requests.Request, declared.answer.Answer.Answer}
 use Rattle.decide_resource.specs.{declared.resource.Resource.Resource, Vary.{AreAlike, ListAlike, SelectTheSame}}
@@ -174,28 +172,6 @@ module _ (varying : List Line) (r s : Request) (alike : AreAlike r s)
         requested_method = line (codes "access-control-request-method") refl is_list_method;
       }
 
--- ---- what agrees with another does so the other way
-
-says_back : (name : List ℕ) (lines others : List Line) → SayTheSame name lines others → SayTheSame name others lines
-says_back name lines others (inl e) = inl (sym e)
-says_back name lines others (inr (is, h)) = inr (
-  is,
-  record {
-    present = h.also_present;
-    also_present = h.present;
-    same = (subst (λ (ms : List Member). list_all is_whole ms ≡ true) h.same.1 h.same.0, sym h.same.1);
-  },
-)
-
-pub agree_back : (stored r s : LineMap) (members : List Member) → ((name : List ℕ) → s name ≡ stored name)
-    → All (Agree stored r) members → All (Agree r s) members
-agree_back stored r s members lines all =
-    All-weaker (Agree stored r) (Agree r s) back members all
-  where
-    back : (member : Member) → Agree stored r member → Agree r s member
-    back (Whole name) k = (k.0, k.1, rw (lines (lowercase name)) (says_back _ _ _ k.2))
-    back Malformed k = absurd k
-
 -- ---- laws of a resource
 
 abbrev pub VaryIsSound : Type 0
@@ -206,9 +182,6 @@ VaryIsSound = (present : ℕ) (resource : Resource) (r s : Request) (a b : Answe
 abbrev pub MembersSelect : Type 0
 MembersSelect = (present : ℕ) (resource : Resource) (r s : Request) (answer : Answer) → AreAlike r s
     → SelectTheSame r.fields s.fields → IsAnswer present resource r answer ↔ IsAnswer present resource s answer
-
-pub get_alone : (m n : List ℕ) → AllowsMethod m n → n ≡ codes "GET" → m ≡ codes "GET"
-get_alone m n allows get = grind arith
 
 read_only : (stored method : List ℕ) → AllowsMethod stored method → stored ≢ codes "OPTIONS"
 read_only stored method (inl h) e = absurd (cc (h.0, e))

@@ -1,16 +1,14 @@
 -- A cache before other servers (RFC 9111): which requests it answers from its store, what it stores, and when.
 use Rattle.std.specs.Prelude.{◌≡◌, ◌≢◌, ◌⊎◌, ℕ, ◌+◌, ◌-◌, ◌/◌, ◌≤◌, Bool, true, ◌&&◌, not, ◌==◌, List, [], ◌∷◌, ◌++◌}
 use Rattle.std.specs.{Prelude.{All, Contains, None, Some, bytes_eq, codes, if◌then◌else◌, unwrap_or}, List.list_all}
-use Rattle.headers.specs.{LineMap.{Field, LineMap, lines_at, set_all}, Lines.{Line, only_line}, Text.is_text}
+use Rattle.headers.specs.{LineMap.{Field, LineMap, lines_at}, Lines.{Line, only_line}, Text.is_text}
 use Rattle.cache_store.specs.{Contents.{Contents, responses_at}, History.{Call, Call.{Looked, Arrived, Removed}}}
-use Rattle.cache_store.specs.{History.{Call.Validated, HasUnder, History, Step}, Lookups.{IsAnswer, age_of_stored}}
-use Rattle.{cache_store.specs.Served.Serves, cache_policy.specs.Updating.{HasValidator, IsUpdated}}
+use Rattle.cache_store.specs.{History.{History, Step}, Lookups.{IsAnswer, age_of_stored}, Served.Serves}
 use Rattle.cache_store.specs.declared.{limits.Limits.Limits, lookup.Lookup.{Lookup, TheVariants.Serve}}
 use Rattle.cache_store.specs.declared.lookup.Lookup.TheVariants.{ServeAndRevalidate, Validate, ValidateOrServe}
 use Rattle.cache_store.specs.{declared.lookup.Lookup.TheVariants.{Unavailable, Forward}, Numbers.numbered}
 use Rattle.decide_preconditions.specs.Preconditions.{IsGetOrHead}
 use Rattle.cache_policy.specs.{Policies.Policy, Requests.Request as Asked}
-use Rattle.cache_rules.specs.{Freshening.IsFreshened, Selection.IsCandidate, declared.freshening.Exchange.Exchange}
 use Rattle.cache_rules.specs.{Stored.fields_of_stored, declared.storing.Reception.Reception}
 use Rattle.cache_rules.specs.{declared.stored.StoredResponse.StoredResponse}
 use Rattle.gateway_messages.specs.declared.protocol.Protocol.TheVariants.{Http11}
@@ -78,28 +76,6 @@ pub record IsPlain (target : List ℕ) (request : Request) : Type 0 where
 abbrev pub key_of : List ℕ → Request → List ℕ
 key_of target request = codes "http://" ++ (unwrap_or (only_line (request.fields (codes "host"))) [] ++ target)
 
--- ---- conditions (RFC 9111, section 4.3.1)
-
--- the request with these field lines of If-None-Match and If-Modified-Since
-abbrev pub with_conditions : List Line → List Line → Request → Request
-with_conditions tags dates request =
-    record {
-      protocol = request.protocol;
-      method = request.method;
-      authority = request.authority;
-      content = request.content;
-      fields = set_all request.fields ((codes "if-none-match", tags) ∷ (codes "if-modified-since", dates) ∷ []);
-      denied = request.denied;
-    }
-
--- They answer a request as it is, or a plain one with conditions that a cache adds: then not by 304, so that the reply
--- is for the client.
-abbrev pub Answers : Origin → Origin
-Answers origin start now target request reply =
-    origin start now target request reply
-    ⊎ ((tags : List Line) × (dates : List Line) × IsPlain target request
-    × origin start now target (with_conditions tags dates request) reply × (reply.status ≢ 304))
-
 -- ---- the clock of a cache
 
 -- A clock, and its ticks at a time. It runs as time does from when it was set; it may be wrong, and its seconds begin
@@ -129,8 +105,6 @@ pub data Act : Type 0 where
   Looks : List ℕ → Request → Act
   -- it takes the response to a request to a target that it sent on: so it is stored, if it is
   Takes : List ℕ → Request → StoredResponse → Reception → Act
-  -- it takes a 304 to a request to a target that it sent on with conditions, which may freshen what is stored
-  Confirms : List ℕ → Request → Reply → Exchange → Act
   -- it removes what is stored under a key
   Drops : List ℕ → Act
 
@@ -146,38 +120,17 @@ pub record IsNoted (request : Request) (requested : ℕ) (reply : Reply) (receiv
   pub requested_at : came.requested ≡ requested
   pub received_at : came.received ≡ received
 
--- A cache sends a request on, and the response comes: when, after its clock was set.
-pub record IsTrip (clock : Clock) (now sent received : ℕ) : Type 0 where
-  pub set_before : clock.set ≤ sent
-  pub after : sent ≤ received
-  pub past : received ≤ now
-
 -- The response came from those behind the cache, after the cache sent the request on.
 pub record HasComeFrom (clock : Clock) (origin : Origin) (now : ℕ) (target : List ℕ) (request : Request)
     (came : StoredResponse) : Type 0 where
   pub sent : ℕ
   pub received : ℕ
-  pub trip : IsTrip clock now sent received
   pub reply : Reply
-  pub answered : Answers origin sent received target request reply
+  pub answered : origin sent received target request reply
   pub noted : IsNoted request (shown clock sent) reply (shown clock received) came
-
--- The cache sent a plain GET on with some condition, and a 304 with a validator came from those behind it.
-pub record IsConfirmed (clock : Clock) (origin : Origin) (now : ℕ) (target : List ℕ) (request : Request)
-    (confirmed : Reply) (exchange : Exchange) : Type 0 where
-  pub plain : IsPlain target request
-  pub method : request.method ≡ codes "GET"
-  pub tags : List Line
-  pub dates : List Line
-  pub some : tags ++ dates ≢ []
-  pub sent : ℕ
-  pub received : ℕ
-  pub trip : IsTrip clock now sent received
-  pub answered : origin sent received target (with_conditions tags dates request) confirmed
-  pub status : confirmed.status ≡ 304
-  pub validator : HasValidator confirmed.fields
-  pub requested_at : exchange.requested ≡ shown clock sent
-  pub received_at : exchange.received ≡ shown clock received
+  pub set_before : clock.set ≤ sent
+  pub after : sent ≤ received
+  pub past : received ≤ now
 
 module _ (caching : Caching) (origin : Origin) (now : ℕ) where
   -- What an act makes of what is stored. A cache looks for plain requests alone, and takes the responses to those that
@@ -188,10 +141,6 @@ module _ (caching : Caching) (origin : Origin) (now : ℕ) where
   Does (Takes target request came reception) old new =
       IsPlain target request × HasComeFrom caching.clock origin now target request came
       × Step caching.policy caching.limits (Arrived (key_of target request) came reception) old new
-  Does (Confirms target request confirmed exchange) old new =
-      IsConfirmed caching.clock origin now target request confirmed exchange
-      × Step caching.policy caching.limits (Validated (key_of target request) (asked request) confirmed.fields exchange)
-      old new
   Does (Drops key) old new = Step caching.policy caching.limits (Removed key) old new
 
   -- a cache that was empty has this after these acts, the latest first
@@ -203,8 +152,6 @@ module _ (caching : Caching) (origin : Origin) (now : ℕ) where
 abbrev pub call_of : Act → Call
 call_of (Looks target request) = Looked (key_of target request)
 call_of (Takes target request came reception) = Arrived (key_of target request) came reception
-call_of (Confirms target request confirmed exchange) =
-    Validated (key_of target request) (asked request) confirmed.fields exchange
 call_of (Drops key) = Removed key
 
 -- the calls of the store, the latest first
@@ -252,13 +199,6 @@ Fails origin silent start now target request =
     IsSilent silent start now
     ⊎ ((reply : Reply) × origin start now target request reply × Contains error_statuses reply.status)
 
--- the reply that a cache serves to a request: a stored response, with this field Age
-pub record IsServed (request : Request) (stored : StoredResponse) (age : Field) (reply : Reply) : Type 0 where
-  pub status : reply.status ≡ stored.status
-  pub content : reply.content ≡ unless_head request.method stored.content
-  pub fields : (name : List ℕ) → name ≢ codes "age" → reply.fields name ≡ fields_of_stored stored name
-  pub has_age : reply.fields (codes "age") ≡ age.1
-
 -- The reply to a request that was sent at the first time, and which is received at the second: in between the cache
 -- serves it a stored response, with its age. It does so at once, or as those behind it fail.
 pub record IsFromStore (caching : Caching) (origin : Origin) (silent : ℕ → Bool) (start now : ℕ) (target : List ℕ)
@@ -276,29 +216,10 @@ pub record IsFromStore (caching : Caching) (origin : Origin) (silent : ℕ → B
   pub serves : Serves lookup number age
       ⊎ (ServesOnError lookup number × Fails origin silent start time target request
       × (age ≡ age_of_stored stored (shown caching.clock time)))
-  pub served : IsServed request stored age reply
-
--- The reply to a request that was sent at the first time, and which is received at the second: in between a 304 comes
--- that is about a stored response which suits the request, and the cache serves that as the 304 freshens it, with its
--- age (RFC 9111, sections 4.3.3 and 4.3.4).
-pub record IsFreshenedFor (caching : Caching) (origin : Origin) (start now : ℕ) (target : List ℕ) (request : Request)
-    (reply : Reply) : Type 0 where
-  pub time : ℕ
-  pub past : time ≤ now
-  pub confirmed : Reply
-  pub exchange : Exchange
-  pub confirms : IsConfirmed caching.clock origin time target request confirmed exchange
-  pub in_time : start ≤ confirms.sent
-  pub acts : List Act
-  pub contents : Contents
-  pub has : HasAfter caching origin time acts contents
-  pub old : StoredResponse
-  pub was : HasUnder contents (key_of target request) old
-  pub suits : IsCandidate (asked request) old
-  pub about : IsUpdated (fields_of_stored old) confirmed.fields
-  pub stored : StoredResponse
-  pub fresh : IsFreshened old confirmed.fields exchange stored
-  pub served : IsServed request stored (age_of_stored stored (shown caching.clock time)) reply
+  pub status : reply.status ≡ stored.status
+  pub content : reply.content ≡ unless_head request.method stored.content
+  pub fields : (name : List ℕ) → name ≢ codes "age" → reply.fields name ≡ fields_of_stored stored name
+  pub has_age : reply.fields (codes "age") ≡ age.1
 
 -- nobody answers, which a gateway or a cache says by 502 or 504 (RFC 9110, sections 15.6.3 and 15.6.5)
 abbrev pub IsUnanswered : (ℕ → Bool) → ℕ → ℕ → ℕ → Type 0

@@ -1,20 +1,16 @@
 -- Gateways and caches in a row before a resource, and what a client receives from them.
-use Rattle.std.specs.Prelude.{◌≡◌, ◌≢◌, ◌⊎◌, ℕ, ◌+◌, ◌-◌, ◌*◌, ◌≤◌, Bool, List, [], ◌∷◌, ◌++◌, codes}
+use Rattle.std.specs.Prelude.{◌≡◌, ◌⊎◌, ℕ, ◌+◌, ◌-◌, ◌*◌, ◌≤◌, Bool, List, [], ◌∷◌, ◌++◌, codes}
 use Rattle.{headers.specs.{LineMap.LineMap, Typed.HasLine}, cache_store.specs.Lookups.IsFreshFor}
 use Rattle.cache_policy.specs.{Decisions.{IsGoodEnough, MayServeOnError}, Fields.{age_value, greatest}}
 use Rattle.cache_policy.specs.declared.decision.Freshness.{Freshness}
 use Rattle.cache_policy.specs.Policies.{Policy, asks as counted_of, tells}
 use Rattle.cache_rules.specs.{Stored.fields_of_stored, declared.stored.StoredResponse.StoredResponse}
-use Rattle.chain.specs.Caches.{Answers, CacheAnswers, Caching, Fails, IsFreshenedFor, IsFromStore, IsPlain}
-use Rattle.chain.specs.Caches.{IsSilent, IsUnanswered, Origin, Reply, per_second, shown}
-use Rattle.chain.specs.Servers.{IsCarried, IsSaid, IsSent, SaysCloseAtMost, Site}
+use Rattle.chain.specs.Caches.{CacheAnswers, Caching, Fails, IsFromStore, IsPlain, IsUnanswered, Origin, Reply}
+use Rattle.chain.specs.{Caches.{per_second, shown}, Servers.{IsCarried, IsSaid, IsSent, SaysCloseAtMost, Site}}
 use Rattle.chain.specs.Ways.{IsSentOn, received, named_host, sent_directly}
 use Rattle.gateway_messages.specs.{FieldLines.fields_of as sent_fields, FieldLines.lines_under, Rejections.status_of}
-use Rattle.gateway_hops.specs.Sent.{Hop as NextHop, LacksLength}
-use Rattle.gateway_messages.specs.{Requests.{IsForGateway, Rejects}, Responses.{IsForwardedResponse, RejectsResponse}}
-use Rattle.gateway_messages.specs.Responses.{Response}
-use Rattle.gateway_messages.specs.declared.{framing.Framing.Framing, gateway.Gateway.Gateway}
-use Rattle.gateway_messages.specs.declared.rejection.Rejection.{Rejection}
+use Rattle.gateway_messages.specs.{Requests.Rejects, Responses.{IsForwardedResponse, RejectsResponse, Response}}
+use Rattle.gateway_messages.specs.{declared.gateway.Gateway.Gateway, declared.rejection.Rejection.Rejection}
 use Rattle.gateway_messages.specs.{declared.response.ForwardedResponse.ForwardedResponse}
 use Rattle.gateway_messages.specs.declared.protocol.Protocol.TheVariants.{Http11}
 use Rattle.decide_resource.specs.Requests.{Request}
@@ -26,7 +22,7 @@ pub record IsReceived (reply : Reply) (response : Response) : Type 0 where
   pub status : response.status ≡ reply.status
   pub fields : (name : List ℕ) → response.fields name ≡ reply.fields name
 
--- A gateway forwards what those behind it answer. It may say that its connection to the client is closed then.
+-- a gateway forwards what those behind it answer
 pub record IsSentBack (gateway : Gateway) (behind reply : Reply) : Type 0 where
   pub response : Response
   pub received : IsReceived behind response
@@ -34,9 +30,7 @@ pub record IsSentBack (gateway : Gateway) (behind reply : Reply) : Type 0 where
   pub sent : ForwardedResponse
   pub forwarded : IsForwardedResponse gateway date response sent
   pub status : reply.status ≡ response.status
-  pub fields : (name : List ℕ) → name ≢ codes "connection"
-      → reply.fields name ≡ lines_under (sent_fields sent.fields.items) name
-  pub closes : SaysCloseAtMost reply.fields
+  pub fields : (name : List ℕ) → reply.fields name ≡ lines_under (sent_fields sent.fields.items) name
   pub content : reply.content ≡ behind.content
 
 -- Between these times a gateway forwards the request, and those behind it answer.
@@ -70,31 +64,13 @@ pub record IsRejectedBack (gateway : Gateway) (origin : Origin) (start now : ℕ
   pub rejection : Rejection
   pub rejects : RejectsResponse gateway response rejection
 
--- The status by which a gateway says why it gave a request up, where no message says that (`gateway_exchange`): its
--- target is in no form that is forwarded; no rule of the gateway lets it through, or it knows no server for it; it came
--- too slowly; an allocation failed; the response can't be written; or there is no server now.
-abbrev pub IsGivenUp : ℕ → Type 0
-IsGivenUp status =
-    (status ≡ 400) ⊎ (status ≡ 403) ⊎ (status ≡ 404) ⊎ (status ≡ 408) ⊎ (status ≡ 500) ⊎ (status ≡ 502)
-    ⊎ (status ≡ 503)
-
--- Why a gateway doesn't forward a request that it doesn't reject: it is CONNECT; its content is chunked, and the next
--- server speaks HTTP/1.0; or Max-Forwards lets it go no further.
-abbrev pub Keeps : Gateway → Request → ℕ → Type 0
-Keeps gateway request status =
-    ((request.method ≡ codes "CONNECT") × (status ≡ 501))
-    ⊎ (((hop : NextHop) × LacksLength gateway hop (received request)) × (status ≡ 411))
-    ⊎ (((framing : Framing) × IsForGateway gateway (received request) framing) × (status ≡ 200))
-
 -- Why a gateway answers a request by itself, and with which status: it rejects the request, by 400, 417, 501 or 508; or
--- what those behind it answer, by 502; or none of them answers; or it keeps the request, or gives it up.
+-- what those behind it answer, by 502; or none of them answers.
 abbrev pub GatewayAnswers : Gateway → Origin → (ℕ → Bool) → ℕ → ℕ → List ℕ → Request → ℕ → Type 0
 GatewayAnswers gateway origin silent start now target request status =
     ((rejection : Rejection) × Rejects gateway (received request) rejection × (status ≡ status_of rejection))
     ⊎ (IsRejectedBack gateway origin start now target request × (status ≡ 502))
     ⊎ (((next : Request) × IsSentOn gateway request next) × IsUnanswered silent start now status)
-    ⊎ Keeps gateway request status
-    ⊎ (IsSilent silent start now × IsGivenUp status)
 
 -- ---- a chain
 
@@ -116,11 +92,11 @@ pub record HasBeenGiven (origin : Origin) (now : ℕ) (target : List ℕ) (reply
   pub first : Request
   pub plain : IsPlain target first
   pub given_reply : Reply
-  pub given : Answers origin sent came target first given_reply
+  pub given : origin sent came target first given_reply
   pub status : reply.status ≡ given_reply.status
 
 -- The server of each host and target; and when a request to those behind a place in a chain may get no answer, by the
--- hops behind it: a server or a gateway is down, or the network is, or the gateway at that place gives it up.
+-- hops behind it: a server or a gateway is down, or the network is.
 module _ (site : Site) (silent : List Hop → ℕ → Bool) where
   -- What those behind a list of hops give, the hop nearest to the client first, to a request that is sent at the first
   -- time, by the second. The last one forwards to the server of the target.
@@ -131,9 +107,8 @@ module _ (site : Site) (silent : List Hop → ℕ → Bool) where
       IsForwardedBack gateway (behind hops) start now target request reply
       ⊎ (GatewayAnswers gateway (behind hops) (silent hops) start now target request reply.status × IsBlank reply)
   behind (Stores caching ∷ hops) start now target request reply =
-      Answers (behind hops) start now target request reply
+      behind hops start now target request reply
       ⊎ IsFromStore caching (behind hops) (silent hops) start now target request reply
-      ⊎ IsFreshenedFor caching (behind hops) start now target request reply
       ⊎ (CacheAnswers caching (behind hops) (silent hops) start now target request reply.status × IsBlank reply)
 
   -- One of the hops gave the reply by itself, for one of its reasons: the first one does; or one behind it did, and the
@@ -145,7 +120,7 @@ module _ (site : Site) (silent : List Hop → ℕ → Bool) where
       × own hops f.passed.sent f.passed.came target f.passed.next f.behind)
       ⊎ GatewayAnswers gateway (behind hops) (silent hops) start now target request reply.status
   own (Stores caching ∷ hops) start now target request reply =
-      Answers (own hops) start now target request reply
+      own hops start now target request reply
       ⊎ (IsFromStore caching (behind hops) (silent hops) start now target request reply
       × HasBeenGiven (own hops) now target reply)
       ⊎ CacheAnswers caching (behind hops) (silent hops) start now target request reply.status

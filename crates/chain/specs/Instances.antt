@@ -5,7 +5,7 @@ use Rattle.cache_policy.specs.declared.Kind.TheVariants.{Shared}
 use Rattle.{cache_rules.specs.declared.stored.StoredResponse.StoredResponse, cache_store.specs.History.History}
 use Rattle.cache_store.specs.declared.limits.Limits.{Limits}
 use Rattle.{chain.specs.Caches.{Caching, Reply, per_second}, chain.specs.Chains.{Hop.{Forwards, Stores}, behind}}
-use Rattle.chain.specs.{Servers.{SaysWhatHasChanged, Server}, Sharing.{IsServedNext, TakeAnswers}}
+use Rattle.chain.specs.{Servers.Server, Sharing.{IsServedNext, TakeAnswers}}
 use Rattle.{gateway_messages.specs.declared.gateway.Gateway.Gateway, decide_resource.specs.Requests.Request}
 use Rattle.interference.specs.{Statements.{HasStrongTags, SaysWhatItDependsOn}, Worlds.{Clients, Origin}}
 use Rattle.interference.specs.Worlds.{Request as Sent}
@@ -15,7 +15,6 @@ use Rattle.interference.specs.Worlds.{Request as Sent}
 -- takes no time.
 pub record IsInstance : Type 0 where
   pub server : Server
-  pub says : SaysWhatHasChanged server
   pub gateway : Gateway
   pub caching : Caching
   pub request : Request

@@ -1,10 +1,7 @@
 -- The server of a resource, and what it says about a request (RFC 9110).
-use Rattle.std.specs.Prelude.{◌≡◌, ◌≢◌, ℕ, Bool, true, false, ◌&&◌, not, List, [], ◌∷◌, All, Option, Some, codes}
-use Rattle.{std.specs.Prelude.{if◌then◌else◌, length, nat_lt}, cache_policy.specs.Freshening.is_kept_name}
-use Rattle.cache_policy.specs.Updating.{IsUpdated}
+use Rattle.std.specs.Prelude.{◌≡◌, ◌≢◌, ℕ, Bool, true, false, List, [], ◌∷◌, All, Option, Some, codes}
 use Rattle.{http_header.specs.Token.lowercase, headers.specs.{LineMap.{LineMap, fields_of, set, set_all}, Lines.Line}}
-use Rattle.{chain.specs.Caches.{Reply, second_of, unless_head, with_conditions}}
-use Rattle.gateway_messages.specs.Forwarding.{own_names}
+use Rattle.{chain.specs.Caches.{Reply, second_of, unless_head}, gateway_messages.specs.Forwarding.own_names}
 use Rattle.gateway_messages.specs.{HopByHop.is_known, Spellings.has_mark, Framing.States}
 use Rattle.gateway_messages.specs.declared.{framing.Framing.Framing, protocol.Protocol.TheVariants.Http11}
 use Rattle.decide_preconditions.specs.{Plans.parts_sent, declared.part.Part.Part}
@@ -86,24 +83,3 @@ pub record IsSent (server : Server) (now : ℕ) (request : Request) (reply : Rep
       ≡ set_all (set (server.own now reply.status) (codes "connection", connection_lines closes))
       (fields_of said.answer.fields.items) (codes "connection")
   pub framed : server.frames ≡ true → (framing : Framing) × States Http11 reply.fields framing
-
--- ---- what its 304 says (RFC 9110, section 15.4.5; RFC 9111, section 3.2)
-
--- a reply with the field lines that a 304 has in place of its own, but for fields that speak of the content
-abbrev pub renewed : Reply → Reply → Reply
-renewed full confirmed =
-    record {
-      status = full.status;
-      content = full.content;
-      fields = λ name. if nat_lt 0 (length (confirmed.fields name)) && not (is_kept_name name)
-          then confirmed.fields name else full.fields name;
-    }
-
--- A 304 says what has changed: if it is about what the resource said to the same GET at some time (RFC 9111, section
--- 4.3.4), the resource says that now, with the field lines of the 304.
-abbrev pub SaysWhatHasChanged : Server → Type 0
-SaysWhatHasChanged server =
-    (time other : ℕ) (request : Request) (tags dates : List Line) (full confirmed : Reply)
-    → request.method ≡ codes "GET" → IsSaid server other request full
-    → IsSaid server time (with_conditions tags dates request) confirmed → confirmed.status ≡ 304
-    → IsUpdated full.fields confirmed.fields → IsSaid server time request (renewed full confirmed)

@@ -1,12 +1,11 @@
 //! What follows from the definitions. A proof cites a law by calling it.
 ghost use Rattle.std.specs.Prelude.{◌≡◌, ◌≢◌, ◌↔◌, ◌⊎◌, ◌∷◌, [], ℕ, Bool, List, All, codes, false, true};
-ghost use Rattle.headers.specs.{LineMap.{LineMap, fields_of, set_all}, Lines.Line};
+ghost use Rattle.headers.specs.LineMap.{LineMap, fields_of, set_all};
 ghost use Rattle.cache_policy.specs.{Varying.Suits, Fields.IsPresent, Policies.tells, Storing.IsOpen};
 ghost use Rattle.cache_policy.specs.{declared.Kind.TheVariants.Shared};
-ghost use Rattle.chain.specs.Caches.{Answers, Caching, IsFromStore, IsPlain, Reply, asked, key_of, unless_head};
+ghost use Rattle.chain.specs.Caches.{Caching, IsFromStore, IsPlain, Reply, asked, key_of, unless_head};
 ghost use Rattle.chain.specs.Chains.{Hop, IsForwardedBack, IsOwn, IsTold, behind, meant};
-ghost use Rattle.chain.specs.{Instances.IsInstance, Servers.{IsSent, SaysCloseAtMost, SaysWhatHasChanged}};
-ghost use Rattle.chain.specs.Servers.{Server, Site};
+ghost use Rattle.chain.specs.{Instances.IsInstance, Servers.{IsSent, SaysCloseAtMost, Server, Site}};
 ghost use Rattle.chain.specs.{Responses.HasNoOptions, Responses.Returns, Ways.Reaches, Ways.sent_directly};
 ghost use Rattle.decide_cors.specs.Browser.{CorsCheck, Request as Sent};
 ghost use Rattle.gateway_messages.specs.{Forwarding.IsHopByHop, Forwarding.own_names, Spellings.has_mark};
@@ -15,9 +14,7 @@ ghost use Rattle.decide_resource.specs.Answers.{AreSame, IsAnswer};
 ghost use Rattle.decide_resource.specs.{Requests.Request, declared.answer.Answer.Answer, Vary.AreAlike};
 ghost use Rattle.decide_resource.specs.{declared.resource.Resource.Resource};
 
-use cache_store::laws::{
-    calls_justify_what_is_stored, lookups_serve_what_calls_justify, what_is_stored_may_be_stored,
-};
+use cache_store::laws::{calls_justify_what_is_stored, lookups_serve_what_calls_justify};
 use decide_resource::laws::{
     head_is_answered_as_get, members_alone_select, other_fields_change_nothing,
     request_has_one_reason, vary_is_sound,
@@ -91,37 +88,33 @@ pub fn stored_answer_is_the_answer()
 }
 
 /// Theorem: what a client gets through any gateways and caches is what the resource says about its
-/// request, or what one of them answers by itself. It left the server when the resource said it, or
-/// confirmed by a 304 what a cache had stored. Or later it left a cache on the way, which found it good
-/// enough for a request with this method and Cache-Control: by its policy, its bound of guesses and the
-/// Date that the client gets it was fresh, or each directive allowed it stale; `stale-if-error` only if
-/// those behind that cache failed. By premise, what a 304 is about is said now, with its field lines. Age,
+/// request, or what one of them answers by itself. It left the server when the resource said it. Or
+/// later it left a cache on the way, which found it good enough for a request with this method and
+/// Cache-Control: by its policy, its bound of guesses and the Date that the client gets it was fresh,
+/// or each directive allowed it stale; `stale-if-error` only if those behind that cache failed. Age,
 /// below 2^64 - 1, is short of the time between by at most a second for each cache. The status, the
 /// content and each carried field are the server's. A field is carried if its name has letters, digits
 /// and dashes alone and isn't Close, if it isn't for one connection, and if neither a gateway nor a
 /// cache writes it. An answer of their own has no content, no carried field, and a reason: a rejected
-/// request or response, one that a gateway keeps, no stored response where the request wants one, or no
-/// answer. It is no statement about a program: a server's content doesn't depend on who asks, a cache
-/// validates by GET alone and serves no ranges, and nothing is said of methods that a server performs.
+/// request or response, no stored response where the request wants one, or no answer. It is no
+/// statement about a program: a server's content doesn't depend on who asks, no cache validates or
+/// serves ranges, and nothing is said of methods that a server performs.
 pub fn client_gets_what_the_resource_says()
     ensures { (site : Site) (silent : List Hop → ℕ → Bool) (hops : List Hop) (start now : ℕ)
-        (target : List ℕ) (request : Request) (reply : Reply)
-        → ((host : List Line) (target : List ℕ) → SaysWhatHasChanged (site host target))
-        → behind site silent hops start now target request reply
+        (target : List ℕ) (request : Request) (reply : Reply) → behind site silent hops start now target request reply
         → IsTold site silent hops start now target (meant hops request) reply
         ⊎ IsOwn site silent hops start now target request reply }
 {
     head_is_answered_as_get();
     calls_justify_what_is_stored();
-    what_is_stored_may_be_stored();
     lookups_serve_what_calls_justify();
     vary_is_sound();
     members_alone_select();
     other_fields_change_nothing();
 }
 
-/// Theorem: such a chain exists. A gateway, a cache and the server of a resource that is gone, which says no 304,
-/// give a client a response whose Age is a second or more, and not the server's: the cache has stored it.
+/// Theorem: such a chain exists. A gateway, a cache and the server of a resource that is gone give a client a response
+/// whose Age is a second or more, and not the server's: the cache has stored it.
 pub fn a_chain_serves_from_its_store()
     ensures { IsInstance }
 {}
@@ -157,24 +150,22 @@ pub fn shared_caches_serve_nothing_private()
         → caching.policy.kind ≡ Shared
         → IsFromStore caching (behind site silent hops) (silent hops) start now target request reply
         → (sent : ℕ) × (received : ℕ) × (first : Request) × (came : Reply)
-        × Answers (behind site silent hops) sent received target first came
+        × behind site silent hops sent received target first came
         × (reply.content ≡ unless_head request.method came.content)
         × (IsPresent (codes "authorization") first.fields → IsOpen (tells caching.policy reply.fields)) }
 {
     calls_justify_what_is_stored();
     lookups_serve_what_calls_justify();
-    what_is_stored_may_be_stored();
 }
 
 /// Theorem: no field of one connection crosses: a gateway forwards none of a response but its own
-/// Transfer-Encoding and Connection, fields that Connection names included, and no field of RFC 9110,
-/// section 7.6.1, or of a proxy comes from a store.
+/// Transfer-Encoding, fields that Connection names included, and no field of RFC 9110, section 7.6.1,
+/// or of a proxy comes from a store.
 pub fn no_connection_field_crosses()
     ensures forwarded { (site : Site) (silent : List Hop → ℕ → Bool) (hops : List Hop)
         (gateway : Gateway) (start now : ℕ) (target : List ℕ) (request : Request) (reply : Reply) (name : List ℕ)
         → (f : IsForwardedBack gateway (behind site silent hops) start now target request reply)
-        → IsHopByHop gateway f.behind.fields name → name ≢ codes "transfer-encoding" → name ≢ codes "connection"
-        → reply.fields name ≡ [] }
+        → IsHopByHop gateway f.behind.fields name → name ≢ codes "transfer-encoding" → reply.fields name ≡ [] }
     ensures stored { (site : Site) (silent : List Hop → ℕ → Bool) (hops : List Hop) (caching : Caching)
         (start now : ℕ) (target : List ℕ) (request : Request) (reply : Reply) (name : List ℕ)
         → IsFromStore caching (behind site silent hops) (silent hops) start now target request reply
@@ -182,6 +173,5 @@ pub fn no_connection_field_crosses()
 {
     calls_justify_what_is_stored();
     lookups_serve_what_calls_justify();
-    what_is_stored_may_be_stored();
     other_fields_change_nothing();
 }

@@ -1,4 +1,4 @@
-use Rattle.{chain.proofs.{ChainLemmas.ends, StoreLemmas.{StoreLaws, came_somehow, stores_none}}}
+use Rattle.chain.proofs.{ChainLemmas.ends, StoreLemmas.stores_none}
 use Rattle.chain.proofs.laws.no_connection_field_crosses.Goals as goal
 
 pub returns-clause-forwarded : goal.returns-clause-forwarded
@@ -6,9 +6,4 @@ returns-clause-forwarded c site silent hops gateway start now target request rep
 
 pub returns-clause-stored : goal.returns-clause-stored
 returns-clause-stored c site silent hops caching start now target request reply name f =
-    let law : StoreLaws = (
-      c.lookups_serve_what_calls_justify.ensures,
-      c.calls_justify_what_is_stored.ensures,
-      c.what_is_stored_may_be_stored.ensures,
-    ) in
-    stores_none law f (came_somehow law f) name
+    stores_none (c.lookups_serve_what_calls_justify.ensures, c.calls_justify_what_is_stored.ensures) f name
