@@ -1,6 +1,7 @@
 //! What a pass comes to, as Cache-Status has it (RFC 9211).
 ghost use Rattle.std.specs.Prelude.{◌≡◌, ◌++◌, OnOk, Some, None, decimal, flat_map, if◌then◌else◌, option_map};
-ghost use Rattle.{std.specs.List.list_all, cache_policy.specs.Policies.policy_of, cache_policy.specs.Requests.request_of};
+ghost use Rattle.{std.specs.List.list_all, cache_policy.specs.Policies.policy_of};
+ghost use Rattle.{cache_policy.specs.Requests.request_of};
 ghost use Rattle.cache_store.specs.Lookups.{IsFreshFor};
 ghost use Rattle.c_pass.specs.Status.{IsReason, IsSelection, IsStanding, IsStatusLine, came_text, collapsed_text};
 ghost use Rattle.c_pass.specs.Status.{course_of, course_text, escaped, fresh_text, has_get, is_reply};

@@ -769,7 +769,7 @@ switch_late {limits} {old} {p} new r interim response next content reached is sa
 
 -- ---- what is put next
 
--- what is written of the request now: no other takes content or an end
+-- how far the bytes of the request are put: in no other state is content or an end taken
 abbrev pub WritesAt : Now → Writing → Type 0
 WritesAt (Asked r interim) w = w ≡ writing_of r
 WritesAt (Hears r interim response content) w = w ≡ writing_of r

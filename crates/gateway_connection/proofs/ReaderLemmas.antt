@@ -539,7 +539,7 @@ goes r method target hs framing plain spelled framed =
 
 -- ---- content
 
--- what is read first is taken or rejected, and so is what follows it
+-- the first request is taken or rejected, and so is what follows it
 then_taken : {A B : Type 0} {a : A} {b : B} {middle rest : List ℕ} (verdict : Verdict A) (next : A → List ℕ → Verdict B)
     → TakesOrRejects a middle verdict → TakesOrRejects b rest (next a middle)
     → TakesOrRejects b rest (and_reads verdict next)

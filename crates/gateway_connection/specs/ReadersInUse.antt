@@ -1,5 +1,5 @@
--- Readers as programs in use are, from their sources. docs/measured/BESIDE_GATEWAYS.md compares each with its program, and
--- names what the family can't tell of them.
+-- Readers as programs in use are: set by how each is known to read, and by what it did in tests/gateway.
+-- docs/measured/BESIDE_GATEWAYS.md compares each with its program, and names what the family can't tell of them.
 use Rattle.std.specs.Prelude.{◌^◌, ◌&&◌, ◌||◌, ℕ, Bool, true, false, not, List, codes, nat_lt, bytes_eq, ◌==◌, length}
 use Rattle.std.specs.Prelude.{[], ◌∷◌, ◌++◌, count_by, flat_map, map}
 use Rattle.std.specs.Char.{to_ascii_lowercase}

@@ -10,8 +10,8 @@ ghost use Rattle.std.specs.List.{AllByRecursion};
 ghost use Rattle.gateway_connection.specs.declared.origin.OriginConnection.{OriginConnection};
 
 /// Theorem: each reader takes a request in plain form for exactly its method, its target and its content, and
-/// leaves what follows it, or rejects it. The premise is that it takes no other field name of the request for one of the
-/// two that frame content.
+/// leaves what follows it, or rejects it. The premise is that it takes no other field name of the request for
+/// one of the two that frame content.
 #[tactic(auto, using(crate::proofs::ReaderLemmas::plain_request_is_taken))]
 pub fn plain_request_is_read_alike()
     ensures { (reader : Reader) (text rest : List ℕ) (plain : IsPlainRequest text)
@@ -29,8 +29,8 @@ pub fn readers_cut_plain_requests_alike()
 
 /// Theorem: whatever the history of calls, and whatever bytes follow, each reader takes of the bytes that a connection
 /// wrote the requests that were put whole: their methods, targets and content, one after another, cut where
-/// they were put, up to one that it rejects. It doesn't wait for more bytes before it has taken them all. The premise is
-/// that it takes no other field name of these requests for one of the two that frame content.
+/// they were put, up to one that it rejects. It doesn't wait for more bytes before it has taken them all. The
+/// premise is that it takes no other field name of these requests for one of the two that frame content.
 #[tactic(auto, using(crate::proofs::WrittenLemmas::written_alike, crate::proofs::WrittenLemmas::reading_goes_on))]
 pub fn written_requests_are_read_alike()
     ensures cut { (limits : Limits) (connection : OriginConnection) (past : Past) (reader : Reader) (more : List ℕ)
@@ -47,8 +47,8 @@ pub fn written_requests_are_read_alike()
 {}
 
 /// Theorem: a reader takes the names of the two fields that frame content for those, and no others, if it takes only
-/// a dash for a dash; if the names have only letters, digits and dashes; or if they are other names even with a dash for
-/// each other byte.
+/// a dash for a dash; if the names have only letters, digits and dashes; or if they are other names even with a
+/// dash for each other byte.
 pub fn names_are_spelled()
     ensures dash { (reader : Reader) (field : Header) → reader.spelling ≡ Dash → IsSpelled reader field }
     ensures marks { (reader : Reader) (field : Header) → has_no_marks field.0 ≡ true → IsSpelled reader field }

@@ -1,10 +1,12 @@
 -- What is known of each connection of a pool, by what happened.
-use Rattle.std.proofs.Common.{◌≡◌, ◌+◌, ◌<◌, ◌≤◌, ◌∷◌, ◌++◌, ℕ, Bool, true, false, List, [], Option, Some, None, map, refl, ap}
+use Rattle.std.proofs.Common.{◌≡◌, ◌+◌, ◌<◌, ◌≤◌, ◌∷◌, ◌++◌, ℕ, Bool, true, false, List, [], Option, Some, None, map}
+use Rattle.std.proofs.Common.{refl, ap}
 use Rattle.std.proofs.Common.{subst, sym, ◌∙◌, arith}
 use Rattle.std.specs.Prelude.{◌==◌, IsSome, MatchOption, cond, find, is_some, not, if◌then◌else◌}
 use Rattle.std.proofs.lemmas.Bool.{eqb-true, not-true}
 use Rattle.gateway_pool.specs.declared.pool.{Change.TheVariants.{Lent, Opens, Kept}}
-use Rattle.gateway_pool.specs.declared.pool.{ConnectionUse.ConnectionUse, ConnectionUse.TheVariants.{Opening, Busy, Idle}}
+use Rattle.gateway_pool.specs.declared.pool.{ConnectionUse.ConnectionUse}
+use Rattle.gateway_pool.specs.declared.pool.{ConnectionUse.TheVariants.{Opening, Busy, Idle}}
 use Rattle.gateway_pool.specs.declared.pool.{Lease.TheVariants.{Reuse, Open, NoOrigin, Full}}
 use Rattle.gateway_pool.specs.declared.pool.{PoolRules.PoolRules, PooledConnection.PooledConnection}
 use Rattle.gateway_pool.specs.Choices.{idle_one}
@@ -162,7 +164,8 @@ IsSound-step (Leased request now key NoOrigin) events pool right all =
 IsSound-step (Leased request now key Full) events pool right all =
     stays events pool.next (Leased request now key Full) (λ other. refl) pool.connections all
 IsSound-step (Opened number) events pool right all =
-    Each-map (IsSound (Opened number ∷ events) pool.next) (changed_at Opens number) (opens events pool.next number) pool.connections all
+    Each-map (IsSound (Opened number ∷ events) pool.next) (changed_at Opens number) (opens events pool.next number)
+    pool.connections all
 IsSound-step (FailedToOpen number now) events pool right all =
     goes events pool.next (FailedToOpen number now) number (λ other. refl) pool.connections all
 IsSound-step (Ended number) events pool right all =
@@ -170,7 +173,8 @@ IsSound-step (Ended number) events pool right all =
 IsSound-step (Released number) events pool right all =
     elim (may_keep (named number pool) pool) as (λ b. Each (IsSound (Released number ∷ events) pool.next)
     (if b then map (changed_at Kept number) pool.connections else others number pool.connections)) [
-      | true ↦ Each-map (IsSound (Released number ∷ events) pool.next) (changed_at Kept number) (keeps events pool.next number) pool.connections all
+      | true ↦ Each-map (IsSound (Released number ∷ events) pool.next) (changed_at Kept number)
+          (keeps events pool.next number) pool.connections all
       | false ↦ goes events pool.next (Released number) number (λ other. refl) pool.connections all
     ]
 IsSound-step (Gone number) events pool right all =

@@ -1,10 +1,12 @@
 -- How many connections an origin has.
-use Rattle.std.proofs.Common.{◌≡◌, ◌⊎◌, ◌<◌, ◌≤◌, ◌∷◌, ◌++◌, ℕ, Bool, true, false, List, [], Option, Some, None, map, refl, ap}
+use Rattle.std.proofs.Common.{◌≡◌, ◌⊎◌, ◌<◌, ◌≤◌, ◌∷◌, ◌++◌, ℕ, Bool, true, false, List, [], Option, Some, None, map}
+use Rattle.std.proofs.Common.{refl, ap}
 use Rattle.std.proofs.Common.{subst, sym, ◌∙◌, arith, inl, inr}
 use Rattle.std.specs.Prelude.{◌==◌, ◌&&◌, MatchOption, length, count_by, nat_lt, not, if◌then◌else◌}
 use Rattle.std.proofs.lemmas.Bool.{eqb-true}
 use Rattle.gateway_pool.specs.declared.pool.{Change.Change, Change.TheVariants.{Lent, Opens, Kept}}
-use Rattle.gateway_pool.specs.declared.pool.{ConnectionUse.ConnectionUse, ConnectionUse.TheVariants.{Opening, Busy, Idle}}
+use Rattle.gateway_pool.specs.declared.pool.{ConnectionUse.ConnectionUse}
+use Rattle.gateway_pool.specs.declared.pool.{ConnectionUse.TheVariants.{Opening, Busy, Idle}}
 use Rattle.gateway_pool.specs.declared.pool.{Lease.TheVariants.{Reuse, Open, NoOrigin, Full}}
 use Rattle.gateway_pool.specs.declared.pool.{PoolRules.PoolRules, PooledConnection.PooledConnection}
 use Rattle.gateway_pool.specs.Choices.{idle_one}
@@ -213,12 +215,14 @@ pub IsWithin-step : (event : Event) (events : List Event) (pool : PoolState) →
     → Each (IsSound events pool.next) pool.connections → IsWithin pool.rules pool.connections
     → IsWithin (happens event pool).rules (happens event pool).connections
 IsWithin-step (Leased request now key (Reuse number origin)) events pool right all within =
-    lends events pool all within request number origin (room (nat_lt origin (length pool.origins)) (not (was_tried request origin pool))
+    lends events pool all within request number origin
+    (room (nat_lt origin (length pool.origins)) (not (was_tried request origin pool))
     (count_by (is_used_at origin) pool.connections) pool.rules.most right.0.0) (idle_one origin pool) refl right.2
 IsWithin-step (Leased request now key (Open number origin)) events pool right all within =
     subst (λ n. IsWithin pool.rules
     (pool.connections ++ record { number = n; origin = origin; used = Opening request } ∷ [])) (sym right.2)
-    (begins events pool all within request origin (room (nat_lt origin (length pool.origins)) (not (was_tried request origin pool))
+    (begins events pool all within request origin
+    (room (nat_lt origin (length pool.origins)) (not (was_tried request origin pool))
     (count_by (is_used_at origin) pool.connections) pool.rules.most right.0.0))
 IsWithin-step (Leased request now key NoOrigin) events pool right all within = within
 IsWithin-step (Leased request now key Full) events pool right all within = within

@@ -1,5 +1,6 @@
 -- What holds of each element of a list, how many pass a test, and the first that does.
-use Rattle.std.proofs.Common.{◌≡◌, ◌⊎◌, ◌+◌, ◌≤◌, ◌∷◌, ◌++◌, ℕ, Bool, true, false, List, [], map, refl, ap, subst, sym, ◌∙◌}
+use Rattle.std.proofs.Common.{◌≡◌, ◌⊎◌, ◌+◌, ◌≤◌, ◌∷◌, ◌++◌, ℕ, Bool, true, false, List, [], map, refl, ap, subst, sym}
+use Rattle.std.proofs.Common.{◌∙◌}
 use Rattle.std.proofs.Common.{arith, inl, Some, None}
 use Rattle.std.specs.Prelude.{⊤, ◌&&◌, ◌<◌, ◌||◌, nat_lt, cond, count_by, filter, find, is_some}
 use Rattle.std.proofs.lemmas.List.Sums.{sum_by-cons, sum_by_push}
@@ -55,7 +56,8 @@ and-false true = refl
 and-false false = refl
 
 pub count_by-map-le : {X : Type 0} (p q : X → Bool) (f : X → X) (xs : List X)
-    → Each (λ x. p (f x) ≡ true → (p x ≡ true) ⊎ (q x ≡ true)) xs → count_by p (map f xs) ≤ count_by p xs + count_by q xs
+    → Each (λ x. p (f x) ≡ true → (p x ≡ true) ⊎ (q x ≡ true)) xs
+    → count_by p (map f xs) ≤ count_by p xs + count_by q xs
 count_by-map-le p q f [] all = omega arith
 count_by-map-le p q f (x ∷ xs) all =
     omega (
@@ -117,7 +119,8 @@ pub find-push : {X : Type 0} (p : X → Bool) (xs : List X) (x : X)
     → is_some (find p (xs ++ x ∷ [])) ≡ (is_some (find p xs) || p x)
 find-push p [] x = elim (p x) as (λ b. is_some (cond b (Some x) None) ≡ (false || b)) [ true ↦ refl | false ↦ refl ]
 find-push p (y ∷ xs) x =
-    elim (p y) as (λ b. is_some (cond b (Some y) (find p (xs ++ x ∷ []))) ≡ (is_some (cond b (Some y) (find p xs)) || p x)) [
+    elim (p y) as (λ b. is_some (cond b (Some y) (find p (xs ++ x ∷ [])))
+    ≡ (is_some (cond b (Some y) (find p xs)) || p x)) [
       | true ↦ refl
       | false ↦ find-push p xs x
     ]
@@ -135,11 +138,13 @@ pub find-filter_same : {X : Type 0} (p q : X → Bool) → ((x : X) → q x ≡ 
     → is_some (find p (filter q xs)) ≡ is_some (find p xs)
 find-filter_same p q h [] = refl
 find-filter_same p q h (x ∷ xs) =
-    (elim (q x) as (λ b. q x ≡ b → is_some (find p (cond b (x ∷ filter q xs) (filter q xs))) ≡ is_some (find p (x ∷ xs))) [
-      | true ↦ λ e. elim (p x) as (λ b. is_some (cond b (Some x) (find p (filter q xs))) ≡ is_some (cond b (Some x) (find p xs))) [
-        | true ↦ refl
-        | false ↦ find-filter_same p q h xs
-      ]
+    (elim (q x) as (λ b. q x ≡ b → is_some (find p (cond b (x ∷ filter q xs) (filter q xs)))
+    ≡ is_some (find p (x ∷ xs))) [
+      | true ↦ λ e. elim (p x) as (λ b. is_some (cond b (Some x) (find p (filter q xs)))
+          ≡ is_some (cond b (Some x) (find p xs))) [
+            | true ↦ refl
+            | false ↦ find-filter_same p q h xs
+          ]
       | false ↦ λ e. find-filter_same p q h xs ∙ sym (ap (λ b. is_some (cond b (Some x) (find p xs))) (h x e))
     ]) refl
 

@@ -1,5 +1,6 @@
 -- The health of origins, and their choice.
-use Rattle.std.proofs.Common.{◌≡◌, ◌⊎◌, ◌+◌, ◌-◌, ◌^◌, ◌<◌, ◌≤◌, ◌∷◌, ℕ, Bool, true, false, List, [], Option, Some, None, refl, ap}
+use Rattle.std.proofs.Common.{◌≡◌, ◌⊎◌, ◌+◌, ◌-◌, ◌^◌, ◌<◌, ◌≤◌, ◌∷◌, ℕ, Bool, true, false, List, [], Option, Some}
+use Rattle.std.proofs.Common.{None, refl, ap}
 use Rattle.std.proofs.Common.{sym, ◌∙◌, arith, inl, inr, length}
 use Rattle.std.specs.Prelude.{◌==◌, ◌&&◌, IsTrue, count_by, min, nat_le, nat_lt, not, slice_index_or, slice_set}
 use Rattle.std.specs.Prelude.{if◌then◌else◌}
@@ -8,7 +9,8 @@ use Rattle.gateway_pool.specs.declared.pool.{Health.Health, PoolRules.PoolRules}
 use Rattle.gateway_pool.specs.declared.pool.{Lease.TheVariants.{Reuse, Open}}
 use Rattle.gateway_pool.specs.declared.pool.{PooledConnection.PooledConnection}
 use Rattle.gateway_pool.specs.Choices.{IsChosen, cost, hash_of, is_down_at, may_take, rank}
-use Rattle.gateway_pool.specs.Histories.{failures_in_turn, is_healthy, is_opening_at, last_failed_at, results, results_with}
+use Rattle.gateway_pool.specs.Histories.{failures_in_turn, is_healthy, is_opening_at, last_failed_at, results}
+use Rattle.gateway_pool.specs.Histories.{results_with}
 use Rattle.gateway_pool.specs.Histories.{run}
 use Rattle.gateway_pool.specs.Pools.{Event, Event.{Leased, Opened, FailedToOpen}}
 use Rattle.gateway_pool.specs.Pools.{PoolState, after_failure, after_opening, failed_once_more, fresh_health, happens}
@@ -18,7 +20,8 @@ use Rattle.gateway_pool.proofs.Lists.{room}
 -- ---- health
 
 abbrev pub health_by : List (Option ℕ) → Health
-health_by results = record { failures = min (failures_in_turn results) (2 ^ 64 - 1); failed_at = last_failed_at results }
+health_by results =
+    record { failures = min (failures_in_turn results) (2 ^ 64 - 1); failed_at = last_failed_at results }
 
 abbrev pub at : ℕ → List Health → Health
 at origin origins = slice_index_or origins origin fresh_health

@@ -1,11 +1,13 @@
 -- How often a request is repeated.
-use Rattle.std.proofs.Common.{◌≡◌, ◌+◌, ◌∷◌, ◌++◌, ℕ, Bool, true, false, List, [], Option, Some, None, refl, ap, sym, ◌∙◌, arith}
+use Rattle.std.proofs.Common.{◌≡◌, ◌+◌, ◌∷◌, ◌++◌, ℕ, Bool, true, false, List, [], Option, Some, None, refl, ap, sym}
+use Rattle.std.proofs.Common.{◌∙◌, arith}
 use Rattle.std.specs.Prelude.{◌==◌, filter, find, is_some, not, if◌then◌else◌}
 use Rattle.gateway_pool.specs.declared.pool.{Lease.TheVariants.{Reuse, Open, NoOrigin, Full}}
 use Rattle.gateway_pool.specs.declared.pool.{PoolRules.PoolRules}
 use Rattle.gateway_pool.specs.Histories.{is_for, repeats, repeats_with, run}
 use Rattle.gateway_pool.specs.Pools.{Event, Event.{Leased, Opened, FailedToOpen, Ended, Released, Gone, Finished}}
-use Rattle.gateway_pool.specs.Pools.{PoolState, goes_again, goes_again_once, happens, is_request, named, repeated_with, request_on}
+use Rattle.gateway_pool.specs.Pools.{PoolState, goes_again, goes_again_once, happens, is_request, named, repeated_with}
+use Rattle.gateway_pool.specs.Pools.{request_on}
 use Rattle.gateway_pool.specs.Pools.{start, was_repeated}
 use Rattle.gateway_pool.proofs.Lists.{find-filter_none, find-filter_same, find-push}
 use Rattle.std.proofs.lemmas.Bool.{eqb-true, not-true}

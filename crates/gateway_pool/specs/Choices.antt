@@ -1,5 +1,6 @@
 -- Which origin server a request is for, and which connection it goes out on.
-use Rattle.std.specs.Prelude.{ℕ, Bool, true, false, not, ◌&&◌, ◌+◌, ◌-◌, ◌*◌, ◌/◌, ◌%◌, ◌^◌, ◌≡◌, ◌<◌, ◌≤◌, ◌⊎◌, IsTrue, MatchOption}
+use Rattle.std.specs.Prelude.{ℕ, Bool, true, false, not, ◌&&◌, ◌+◌, ◌-◌, ◌*◌, ◌/◌, ◌%◌, ◌^◌, ◌≡◌, ◌<◌, ◌≤◌, ◌⊎◌, IsTrue}
+use Rattle.std.specs.Prelude.{MatchOption}
 use Rattle.std.specs.Prelude.{Option, Some, None, count_by, find, length, nat_lt, if◌then◌else◌}
 use Rattle.gateway_pool.specs.declared.pool.{Lease.Lease, Lease.TheVariants.{Reuse, Open, NoOrigin, Full}}
 use Rattle.gateway_pool.specs.declared.pool.{PooledConnection.PooledConnection}

@@ -1,7 +1,8 @@
 -- What happened to a pool, the latest first, and what is to follow from it.
 use Rattle.std.specs.Prelude.{ℕ, Bool, false, not, ◌&&◌, ◌+◌, ◌==◌, ◌≡◌, ⊤, IsSome, List, [], ◌∷◌, Option, Some, None}
 use Rattle.std.specs.Prelude.{find, if◌then◌else◌}
-use Rattle.gateway_pool.specs.declared.pool.{Lease.Lease, Lease.TheVariants.{Reuse, Open}, PooledConnection.PooledConnection}
+use Rattle.gateway_pool.specs.declared.pool.{Lease.Lease, Lease.TheVariants.{Reuse, Open}}
+use Rattle.gateway_pool.specs.declared.pool.{PooledConnection.PooledConnection}
 use Rattle.gateway_pool.specs.Choices.{IsLease, is_down_at, may_take}
 use Rattle.gateway_pool.specs.Pools.{Event, Event.{Leased, Opened, FailedToOpen, Ended, Released, Gone, Finished}}
 use Rattle.gateway_pool.specs.Pools.{PoolState, named, goes_again, happens, is_opening}

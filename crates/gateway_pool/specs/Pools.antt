@@ -1,6 +1,8 @@
 -- What a pool knows of origin servers and of the connections to them, and what each event makes of it.
-use Rattle.std.specs.Prelude.{ℕ, Bool, true, false, not, ◌&&◌, ◌+◌, ◌-◌, ◌^◌, ◌==◌, List, [], ◌∷◌, ◌++◌, Option, Some, None}
-use Rattle.std.specs.Prelude.{count_by, filter, find, is_some, map, min, nat_le, nat_lt, replicate, slice_index_or, slice_set}
+use Rattle.std.specs.Prelude.{ℕ, Bool, true, false, not, ◌&&◌, ◌+◌, ◌-◌, ◌^◌, ◌==◌, List, [], ◌∷◌, ◌++◌, Option, Some}
+use Rattle.std.specs.Prelude.{None}
+use Rattle.std.specs.Prelude.{count_by, filter, find, is_some, map, min, nat_le, nat_lt, replicate, slice_index_or}
+use Rattle.std.specs.Prelude.{slice_set}
 use Rattle.std.specs.Prelude.{if◌then◌else◌}
 use Rattle.gateway_pool.specs.declared.pool.{ConnectionUse.ConnectionUse, Health.Health, Lease.Lease, Pool.Pool}
 use Rattle.gateway_pool.specs.declared.pool.{ConnectionUse.TheVariants.{Opening, Busy, Idle}}

@@ -1,5 +1,6 @@
 //! What holds after any calls, in any order.
-ghost use Rattle.std.specs.Prelude.{◌+◌, ◌-◌, ◌<◌, ◌≡◌, ◌≤◌, ◌∷◌, ◌^◌, ◌&&◌, IsTrue, List, count_by, nat_le, nat_lt, true, ℕ};
+ghost use Rattle.std.specs.Prelude.{◌+◌, ◌-◌, ◌<◌, ◌≡◌, ◌≤◌, ◌∷◌, ◌^◌, ◌&&◌, IsTrue, List, count_by, nat_le, nat_lt};
+ghost use Rattle.std.specs.Prelude.{true, ℕ};
 ghost use Rattle.gateway_pool.specs.declared.pool.{Lease.TheVariants.Reuse, PoolRules.PoolRules};
 ghost use Rattle.gateway_pool.specs.Choices.{IsChosen, is_down_at, may_take};
 ghost use Rattle.gateway_pool.specs.Histories.{AreRight, IsKept, failures_in_turn, is_healthy, last_failed_at, repeats};

@@ -1,12 +1,15 @@
 //! A pool, and its calls.
-ghost use Rattle.std.specs.Prelude.{◌<◌, ◌≡◌, ◌↔◌, IfOk, IsTrue, MatchOption, OnErr, OnOk, count_by, false, filter, find};
+ghost use Rattle.std.specs.Prelude.{◌<◌, ◌≡◌, ◌↔◌, IfOk, IsTrue, MatchOption, OnErr, OnOk, count_by, false, filter};
+ghost use Rattle.std.specs.Prelude.{find};
 ghost use Rattle.std.specs.Prelude.{if◌then◌else◌, is_ok, is_some, length, map, not, option_copied, slice_index_or};
 ghost use Rattle.std.specs.Prelude.{slice_set, ℕ};
 ghost use Rattle.gateway_pool.specs.Choices.{IsChosen, IsLease, comes_first, cost, hash_of, may_take, rank, stirred};
 ghost use Rattle.gateway_pool.specs.Pools.{Event.Leased, Event.Opened, Event.FailedToOpen, Event.Ended, Event.Released};
 ghost use Rattle.gateway_pool.specs.Pools.{Event.Gone, Event.Finished, changed, after_failure, changed_at, named};
-ghost use Rattle.gateway_pool.specs.Pools.{fresh_health, goes_again, happens, is_down, is_idle, is_idle_at, is_named, is_of, is_request};
-ghost use Rattle.gateway_pool.specs.Pools.{is_opening, is_tried, is_used_at, may_keep, after_opening, others, start, state_of};
+ghost use Rattle.gateway_pool.specs.Pools.{fresh_health, goes_again, happens, is_down, is_idle, is_idle_at, is_named};
+ghost use Rattle.gateway_pool.specs.Pools.{is_of, is_request};
+ghost use Rattle.gateway_pool.specs.Pools.{is_opening, is_tried, is_used_at, may_keep, after_opening, others, start};
+ghost use Rattle.gateway_pool.specs.Pools.{state_of};
 ghost use Rattle.gateway_pool.specs.Pools.{tried_with, was_repeated, was_tried};
 
 use std::alloc::{AllocError, Global};
