@@ -9,8 +9,8 @@ abbrev pub Each : {X : Type 0} → (X → Type 0) → List X → Type 0
 Each P [] = ⊤
 Each P (x ∷ xs) = P x × Each P xs
 
-pub Each-map : {X : Type 0} {P : X → Type 0} (Q : X → Type 0) (f : X → X) → ((x : X) → P x → Q (f x)) → (xs : List X) → Each P xs
-    → Each Q (map f xs)
+pub Each-map : {X : Type 0} {P : X → Type 0} (Q : X → Type 0) (f : X → X) → ((x : X) → P x → Q (f x)) → (xs : List X)
+    → Each P xs → Each Q (map f xs)
 Each-map Q f step [] all = tt
 Each-map Q f step (x ∷ xs) all = (step x all.0, Each-map Q f step xs all.1)
 
